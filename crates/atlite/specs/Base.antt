@@ -1,0 +1,75 @@
+-- What the other modules share: results that may be refusals, tests, and quoted text as bytes. Assumes nothing.
+--
+-- A rule is written in `do` notation over `Result`: the first test that fails decides the cause, so the order of the lines of a
+-- rule is the order of the causes in document 01's table. Tests are `Bool`, so that every definition computes.
+use Prim.Native.Nat.{ℕ, _+_}
+use Prim.Native.Char.{code}
+use Prim.Native.String as S
+use mathlib.Core.Bool.{Bool, true, false, _&&_, not}
+use mathlib.Core.List.{List, [], _∷_}
+use mathlib.Core.Option.{Option, none, some}
+use lib.Dec.{eqb}
+
+-- a value, or the number of the cause that refused it
+pub data Result (A : Type 0) : Type 0 where
+  done : A → Result A
+  refused : ℕ → Result A
+
+infixl 20 _>>=_
+abbrev pub _>>=_ : {A B : Type 0} → Result A → (A → Result B) → Result B
+_>>=_ (done a) f = f a
+_>>=_ (refused n) f = refused n
+
+-- the value there is, or a refusal with the cause n
+unfoldable pub orRefuse : {A : Type 0} → ℕ → Option A → Result A
+orRefuse n none = refused n
+orRefuse n (some a) = done a
+
+-- nothing, or a refusal with the cause n where the test fails
+unfoldable pub require : ℕ → Bool → Result (Unit {0})
+require n true = done tt
+require n false = refused n
+
+infixr 20 _>>_
+abbrev pub _>>_ : {A : Type 0} → Result (Unit {0}) → Result A → Result A
+_>>_ (done u) r = r
+_>>_ (refused n) r = refused n
+
+infix 15 if_then_else_
+unfoldable pub if_then_else_ : {A : Type 0} → Bool → A → A → A
+if_then_else_ true a b = a
+if_then_else_ false a b = b
+
+-- a quoted text's bytes
+unfoldable pub bytes : S.String → List ℕ
+bytes S.[] = []
+bytes (S._∷_ c s) = code c ∷ bytes s
+
+unfoldable pub member : ℕ → List ℕ → Bool
+member x [] = false
+member x (y ∷ ys) = if eqb x y then true else member x ys
+
+-- no number stands twice
+unfoldable pub distinct : List ℕ → Bool
+distinct [] = true
+distinct (x ∷ xs) = not (member x xs) && distinct xs
+
+unfoldable pub all : {A : Type 0} → (A → Bool) → List A → Bool
+all p [] = true
+all p (x ∷ xs) = p x && all p xs
+
+unfoldable pub sum : {A : Type 0} → (A → ℕ) → List A → ℕ
+sum f [] = 0
+sum f (x ∷ xs) = f x + sum f xs
+
+-- the two lists are equal
+unfoldable pub sameBytes : List ℕ → List ℕ → Bool
+sameBytes [] [] = true
+sameBytes [] (y ∷ ys) = false
+sameBytes (x ∷ xs) [] = false
+sameBytes (x ∷ xs) (y ∷ ys) = eqb x y && sameBytes xs ys
+
+-- all definitions above, opened together: name it on an `unfolding` line
+unfoldable pub Base : Unit {0}
+unfolding orRefuse require if_then_else_ bytes member distinct all sum sameBytes
+Base = tt

@@ -1,0 +1,35 @@
+-- what everything rests on
+pub mod Base
+-- script text
+pub mod Lexicon
+pub mod Script
+pub mod Printer
+pub mod Scope
+pub mod Reader
+pub mod Table
+-- expansion
+pub mod Term
+pub mod Subst
+pub mod Expansion
+-- states
+pub mod State
+pub mod Limits
+pub mod Valid
+pub mod ValidTest
+-- moves
+pub mod Redex
+pub mod Outcome
+pub mod Passing
+pub mod Rules
+pub mod Move
+-- calls on states
+pub mod Load
+pub mod Run
+pub mod Listing
+-- what the code answers, and what the program prints
+pub mod Answers
+pub mod Loops
+pub mod Examples
+-- laws, which need not be believed
+pub mod Facts
+pub mod Laws

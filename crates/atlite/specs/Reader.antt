@@ -1,0 +1,262 @@
+-- The reader, from the bytes of a text to the lines of its script. It refuses with 2 whatever is not of the grammar, and says
+-- nothing of binding, lists and limits. A reader takes a value off the front of a text and hands on what is left; the readers
+-- of forms are given the reader of their expressions, so that only `readExpr` needs fuel: one for each bracket that it goes
+-- into. Assumes nothing.
+use Prim.Native.Nat.{ℕ, zero, suc, _+_, _-_, max}
+use mathlib.Core.Bool.{true, false}
+use mathlib.Core.List.{List, [], _∷_}
+use mathlib.Core.Option.{Option, none, some}
+use lib.ListN.{length}
+use lib.Dec.{eqb}
+use Rattle.atlite.specs.Base.{Result, done, refused, _>>=_, _>>_, orRefuse, require, if_then_else_, bytes, sameBytes}
+use Rattle.atlite.specs.Term.{this, Kind}
+use Rattle.atlite.specs.Lexicon.{Bytes, open′, close, space, newline, inWord, isWord, decimal, isNumber, dictionary, numberOf}
+use Rattle.atlite.specs.Script.{Src, Srcs, nil, cons, SrcFields, noField, field, SrcMethods, noMethod, method, Line, expression, define}
+use Rattle.atlite.specs.Printer.{printKind}
+
+-- how many brackets are open at once at most: n are open, and m were at most so far
+unfoldable pub depthFrom : ℕ → ℕ → Bytes → ℕ
+depthFrom n m [] = m
+depthFrom n m (b ∷ i) = depthFrom (if eqb b open′ then n + 1 else if eqb b close then n - 1 else n) (if eqb b open′ then max m (n + 1) else m) i
+
+unfoldable pub depth : Bytes → ℕ
+depth t = depthFrom 0 0 t
+
+-- a reader of A
+abbrev pub Reading : Type 0 → Type 0
+Reading A = Bytes → Result (A × Bytes)
+
+-- the longest run of letters and digits, and what is left
+unfoldable pub item : Bytes → Bytes × Bytes
+item [] = ([], [])
+item (b ∷ i) = elim (inWord b) [ true ↦ (let r = item i in (b ∷ r .0, r .1)) | false ↦ ([], b ∷ i) ]
+
+-- what is left after the byte b, which must come next
+unfoldable pub eat : ℕ → Bytes → Result Bytes
+eat b [] = refused 2
+eat b (c ∷ i) = require 2 (eqb b c) >> done i
+
+-- what is left after the bytes w, if they come next
+unfoldable pub after : Bytes → Bytes → Option Bytes
+after [] i = some i
+after (b ∷ w) [] = none
+after (b ∷ w) (c ∷ i) = if eqb b c then after w i else none
+
+unfoldable pub atom : List Bytes → Bytes → Result Src
+atom ws w =
+    if isNumber w then done (Src.num (decimal 0 w))
+    else if sameBytes w (bytes "null") then done Src.null
+    else if sameBytes w (bytes "this") then done (Src.var this)
+    else (require 2 (isWord w) >> (orRefuse 2 (numberOf ws w) >>= λ x. done (Src.var x)))
+
+unfoldable pub readAtom : List Bytes → Reading Src
+readAtom ws i = do
+  e ← atom ws (item i .0)
+  done (e, item i .1)
+
+unfoldable pub readWord : List Bytes → Reading ℕ
+readWord ws i = do
+  require 2 (isWord (item i .0))
+  x ← orRefuse 2 (numberOf ws (item i .0))
+  done (x, item i .1)
+
+-- the same behind a space
+unfoldable pub spaced : {A : Type 0} → Reading A → Reading A
+spaced R i = eat space i >>= λ j. R j
+
+unfoldable pub spacedWord : List Bytes → Reading ℕ
+spacedWord ws i = spaced (readWord ws) i
+
+-- At most k items, each behind a space, then the closing bracket; `end` and `more` build their list.
+unfoldable pub readItems : {A L : Type 0} → L → (A → L → L) → Reading A → ℕ → Reading L
+readItems end more R zero i = eat close i >>= λ j. done (end, j)
+readItems end more R (suc k) i = elim (after (close ∷ []) i) [
+  | some j ↦ done (end, j)
+  | none ↦ (do
+    (a, i₁) ← spaced R i
+    (l, i₂) ← readItems end more R k i₁
+    done (more a l, i₂))
+]
+
+unfoldable pub readArgs : Reading Src → Reading Srcs
+readArgs R i = readItems nil cons R 3 i
+
+unfoldable pub readParams : List Bytes → Reading (List ℕ)
+readParams ws i = readItems [] _∷_ (readWord ws) 2 i
+
+-- parameters behind their opening bracket
+unfoldable pub readNames : List Bytes → Reading (List ℕ)
+readNames ws i = elim (after (close ∷ []) i) [
+  | some j ↦ done ([], j)
+  | none ↦ (do
+    (x, i₁) ← readWord ws i
+    (xs, i₂) ← readParams ws i₁
+    done (x ∷ xs, i₂))
+]
+
+-- parameters in brackets, behind a space
+unfoldable pub readHead : List Bytes → Reading (List ℕ)
+readHead ws i = orRefuse 2 (after (bytes " (") i) >>= λ j. readNames ws j
+
+-- at most k fields, each with the space before it
+unfoldable pub readFields : List Bytes → Reading Src → ℕ → Reading SrcFields
+readFields ws R zero i = done (noField, i)
+readFields ws R (suc k) i = elim (after (bytes " (field ") i) [
+  | none ↦ done (noField, i)
+  | some i₁ ↦ (do
+    (f, i₂) ← readWord ws i₁
+    (e, i₃) ← spaced R i₂
+    i₄ ← eat close i₃
+    (fs, i₅) ← readFields ws R k i₄
+    done (field f e fs, i₅))
+]
+
+-- at most k methods, each with the space before it
+unfoldable pub readMethods : List Bytes → Reading Src → ℕ → Reading SrcMethods
+readMethods ws R zero i = done (noMethod, i)
+readMethods ws R (suc k) i = elim (after (bytes " (method ") i) [
+  | none ↦ done (noMethod, i)
+  | some i₁ ↦ (do
+    (m, i₂) ← readWord ws i₁
+    (xs, i₃) ← readHead ws i₂
+    (e, i₄) ← spaced R i₃
+    i₅ ← eat close i₄
+    (ms, i₆) ← readMethods ws R k i₅
+    done (method m xs e ms, i₆))
+]
+
+pub data Operator : Type 0 where
+  plus percent get set call send ask letIn future fn resolve when seq : Operator
+  literal : Kind → Operator
+
+unfoldable pub spelling : Operator → Bytes
+spelling plus = bytes "plus"
+spelling percent = bytes "percent"
+spelling get = bytes "get"
+spelling set = bytes "set"
+spelling call = bytes "call"
+spelling send = bytes "send"
+spelling ask = bytes "ask"
+spelling letIn = bytes "let"
+spelling future = bytes "future"
+spelling fn = bytes "fn"
+spelling resolve = bytes "resolve"
+spelling when = bytes "when"
+spelling seq = bytes "seq"
+spelling (literal k) = printKind k
+
+unfoldable pub operators : List Operator
+operators =
+    plus ∷ percent ∷ get ∷ set ∷ call ∷ send ∷ ask ∷ letIn ∷ future ∷ fn ∷ resolve ∷ when ∷ seq
+    ∷ literal Kind.object ∷ literal Kind.isolate ∷ literal Kind.actor ∷ []
+
+unfoldable pub spelled : List Operator → Bytes → Option Operator
+spelled [] w = none
+spelled (o ∷ os) w = if sameBytes (spelling o) w then some o else spelled os w
+
+unfoldable pub operator : Bytes → Option Operator
+operator w = spelled operators w
+
+-- Behind the operator, to the closing bracket: two expressions; an expression, a word and an expression; an expression, a
+-- word and arguments.
+unfoldable pub readTwo : (Src → Src → Src) → Reading Src → Reading Src
+readTwo c R i = do
+  (e, i₁) ← spaced R i
+  (d, i₂) ← spaced R i₁
+  i₃ ← eat close i₂
+  done (c e d, i₃)
+
+unfoldable pub readBetween : (Src → ℕ → Src → Src) → List Bytes → Reading Src → Reading Src
+readBetween c ws R i = do
+  (e, i₁) ← spaced R i
+  (x, i₂) ← spacedWord ws i₁
+  (d, i₃) ← spaced R i₂
+  i₄ ← eat close i₃
+  done (c e x d, i₄)
+
+unfoldable pub readMessage : (Src → ℕ → Srcs → Src) → List Bytes → Reading Src → Reading Src
+readMessage c ws R i = do
+  (e, i₁) ← spaced R i
+  (m, i₂) ← spacedWord ws i₁
+  (es, i₃) ← readArgs R i₂
+  done (c e m es, i₃)
+
+-- what stands behind an operator, to the closing bracket
+unfoldable pub readForm : Operator → List Bytes → Reading Src → Reading Src
+readForm plus ws R i = readTwo Src.plus R i
+readForm percent ws R i = readTwo Src.percent R i
+readForm get ws R i = do
+  (e, i₁) ← spaced R i
+  (f, i₂) ← spacedWord ws i₁
+  i₃ ← eat close i₂
+  done (Src.get e f, i₃)
+readForm set ws R i = readBetween Src.set ws R i
+readForm call ws R i = readMessage Src.call ws R i
+readForm send ws R i = readMessage Src.send ws R i
+readForm ask ws R i = readMessage Src.ask ws R i
+readForm letIn ws R i = do
+  (x, i₁) ← spacedWord ws i
+  (e, i₂) ← spaced R i₁
+  (d, i₃) ← spaced R i₂
+  i₄ ← eat close i₃
+  done (Src.letIn x e d, i₄)
+readForm future ws R i = do
+  (x, i₁) ← spacedWord ws i
+  (y, i₂) ← spacedWord ws i₁
+  (e, i₃) ← spaced R i₂
+  i₄ ← eat close i₃
+  done (Src.future x y e, i₄)
+readForm fn ws R i = do
+  (x, i₁) ← spacedWord ws i
+  (e, i₂) ← spaced R i₁
+  i₃ ← eat close i₂
+  done (Src.fn x e, i₃)
+readForm resolve ws R i = readTwo Src.resolve R i
+readForm when ws R i = readBetween Src.when ws R i
+readForm seq ws R i = readTwo Src.seq R i
+readForm (literal k) ws R i = do
+  (fs, i₁) ← readFields ws R 4 i
+  (ms, i₂) ← readMethods ws R 4 i₁
+  i₃ ← eat close i₂
+  done (Src.literal k fs ms, i₃)
+
+unfoldable pub readExpr : ℕ → List Bytes → Reading Src
+readExpr zero ws i = refused 2
+readExpr (suc n) ws [] = refused 2
+readExpr (suc n) ws (b ∷ i) = elim (eqb b open′) [
+  | true ↦ (orRefuse 2 (operator (item i .0)) >>= λ o. readForm o ws (λ j. readExpr n ws j) (item i .1))
+  | false ↦ readAtom ws (b ∷ i)
+]
+
+unfoldable pub readDefinition : ℕ → List Bytes → Reading Line
+readDefinition n ws i = do
+  (x, i₁) ← readWord ws i
+  (e, i₂) ← spaced (readExpr n ws) i₁
+  i₃ ← eat close i₂
+  i₄ ← eat newline i₃
+  done (define x e, i₄)
+
+unfoldable pub readLine : ℕ → List Bytes → Reading Line
+readLine n ws i = elim (after (bytes "(def ") i) [
+  | some i₁ ↦ readDefinition n ws i₁
+  | none ↦ (do
+    (e, i₁) ← readExpr n ws i
+    i₂ ← eat newline i₁
+    done (expression e, i₂))
+]
+
+-- lines to the end of the text; n is above its length
+unfoldable pub readLines : ℕ → List Bytes → Bytes → Result (List Line)
+readLines zero ws i = refused 2
+readLines (suc n) ws [] = done []
+readLines (suc n) ws (b ∷ i) = do
+  (l, i₁) ← readLine (suc n) ws (b ∷ i)
+  ls ← readLines n ws i₁
+  done (l ∷ ls)
+
+unfoldable pub readScript : Bytes → Result (List Line)
+readScript t = readLines (length t + 1) (dictionary t) t
+
+unfoldable pub Reader : Unit {0}
+unfolding depthFrom depth item eat after atom readAtom readWord spaced spacedWord readItems readArgs readParams readNames readHead readFields readMethods spelling operators spelled operator readTwo readBetween readMessage readForm readExpr readDefinition readLine readLines readScript
+Reader = tt

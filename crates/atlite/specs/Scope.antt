@@ -1,0 +1,87 @@
+-- What is asked of a script that is of the grammar: that its variables are bound (cause 3), and that no list names one thing
+-- twice (cause 4). Assumes nothing.
+use Prim.Native.Nat.{ℕ}
+use mathlib.Core.Bool.{Bool, true, _&&_, not}
+use mathlib.Core.List.{List, [], _∷_, _++_}
+use lib.Dec.{eqb}
+use Rattle.atlite.specs.Base.{member, distinct}
+use Rattle.atlite.specs.Term.{this, seen}
+use Rattle.atlite.specs.Script.{Src, num, null, var, plus, percent, get, set, call, send, ask, letIn, future, fn, resolve, when, seq, literal, Srcs, nil, cons, SrcFields, noField, field, SrcMethods, noMethod, method}
+
+-- Under the words xs every variable is bound; `this` needs no binder.
+unfoldable mutual
+  pub bound : List ℕ → Src → Bool
+  bound xs (num n) = true
+  bound xs null = true
+  bound xs (var x) = member x (this ∷ xs)
+  bound xs (plus a b) = bound xs a && bound xs b
+  bound xs (percent a b) = bound xs a && bound xs b
+  bound xs (get e f) = bound xs e
+  bound xs (set e f d) = bound xs e && bound xs d
+  bound xs (call e m es) = bound xs e && boundAll xs es
+  bound xs (send e m es) = bound xs e && boundAll xs es
+  bound xs (ask e m es) = bound xs e && boundAll xs es
+  bound xs (letIn x e d) = bound xs e && bound (x ∷ xs) d
+  bound xs (future x y e) = bound (x ∷ y ∷ xs) e
+  bound xs (fn x e) = bound (x ∷ xs) e
+  bound xs (resolve e d) = bound xs e && bound xs d
+  bound xs (when e x d) = bound xs e && bound (x ∷ xs) d
+  bound xs (seq a b) = bound xs a && bound xs b
+  bound xs (literal k fs ms) = boundFields (seen k xs) fs && boundMethods (seen k xs) ms
+
+  pub boundAll : List ℕ → Srcs → Bool
+  boundAll xs nil = true
+  boundAll xs (cons e es) = bound xs e && boundAll xs es
+
+  pub boundFields : List ℕ → SrcFields → Bool
+  boundFields xs noField = true
+  boundFields xs (field f e fs) = bound xs e && boundFields xs fs
+
+  pub boundMethods : List ℕ → SrcMethods → Bool
+  boundMethods xs noMethod = true
+  boundMethods xs (method m ys e ms) = bound (ys ++ xs) e && boundMethods xs ms
+
+unfoldable pub fieldNames : SrcFields → List ℕ
+fieldNames noField = []
+fieldNames (field f e fs) = f ∷ fieldNames fs
+
+unfoldable pub methodNames : SrcMethods → List ℕ
+methodNames noMethod = []
+methodNames (method m xs e ms) = m ∷ methodNames ms
+
+-- Names are single in each list of fields, methods and parameters, and in the pair of a future.
+unfoldable mutual
+  pub single : Src → Bool
+  single (num n) = true
+  single null = true
+  single (var x) = true
+  single (plus a b) = single a && single b
+  single (percent a b) = single a && single b
+  single (get e f) = single e
+  single (set e f d) = single e && single d
+  single (call e m es) = single e && singleAll es
+  single (send e m es) = single e && singleAll es
+  single (ask e m es) = single e && singleAll es
+  single (letIn x e d) = single e && single d
+  single (future x y e) = not (eqb x y) && single e
+  single (fn x e) = single e
+  single (resolve e d) = single e && single d
+  single (when e x d) = single e && single d
+  single (seq a b) = single a && single b
+  single (literal k fs ms) = distinct (fieldNames fs) && distinct (methodNames ms) && singleFields fs && singleMethods ms
+
+  pub singleAll : Srcs → Bool
+  singleAll nil = true
+  singleAll (cons e es) = single e && singleAll es
+
+  pub singleFields : SrcFields → Bool
+  singleFields noField = true
+  singleFields (field f e fs) = single e && singleFields fs
+
+  pub singleMethods : SrcMethods → Bool
+  singleMethods noMethod = true
+  singleMethods (method m xs e ms) = distinct xs && single e && singleMethods ms
+
+unfoldable pub Scope : Unit {0}
+unfolding bound fieldNames methodNames single
+Scope = tt
