@@ -1,0 +1,215 @@
+-- The dictionary of any text: its words are different, none is `apply`, and each word that stands in the text by itself has a
+-- number. The invariant is on the words found so far, as the text is gone through. Assumes nothing.
+use mathlib.Core.Path.{_≡_, refl, sym, ap, _∙_}
+use mathlib.Core.Bool.{Bool, true, false, false≢true, _&&_, _||_, not}
+use mathlib.Core.Option.{some}
+use mathlib.Core.List.{List, [], _∷_, _++_, append-assoc, append-nil}
+use Prim.Native.Nat.{ℕ, suc, _≤_}
+use native.Mathlib.Omega.{arith}
+use lib.ListN.{length}
+use borrow.Author.Tests.{not-true}
+use Rattle.atlite.specs.Base.{bytes, sameBytes, if_then_else_, all}
+use Rattle.atlite.specs.Term.{apply, firstWord}
+use Rattle.atlite.specs.Lexicon.{Bytes, among, isWord, inWord, noted, wordsFrom, wordsOf, withoutApply, dictionary, place, numberOf}
+use Rattle.atlite.specs.Valid.{wordsHold}
+use Rattle.atlite.specs.Facts.{and₂, or-false, or-right, same-true, same-refl, same-false-sym}
+use Rattle.reading.specs.Items.{Ends, word-parts}
+
+-- different words
+Separate : List Bytes → Type 0
+Separate [] = Unit {0}
+Separate (w ∷ ws) = (isWord w ≡ true) × (among ws w ≡ false) × Separate ws
+
+among-last : (ws : List Bytes) (v w : Bytes) → among ws v ≡ false → sameBytes w v ≡ false → among (ws ++ (w ∷ [])) v ≡ false
+unfolding among
+among-last [] v w h e = rw e
+among-last (u ∷ ws) v w h e = let p = or-false (sameBytes u v) (among ws v) h in rw (p .0) (among-last ws v w (p .1) e)
+
+separate-last : (ws : List Bytes) (w : Bytes) → Separate ws → isWord w ≡ true → among ws w ≡ false → Separate (ws ++ (w ∷ []))
+unfolding Separate among
+separate-last [] w s h e = (h, refl, tt)
+separate-last (v ∷ ws) w s h e =
+    let p = or-false (sameBytes v w) (among ws w) e in
+    (s .0, among-last ws v w (s .1) (same-false-sym v w (p .0)), separate-last ws w (s .2) h (p .1))
+
+separate-noted : (ws : List Bytes) (w : Bytes) → Separate ws → Separate (noted ws w)
+unfolding noted if_then_else_
+separate-noted ws w s = go (isWord w && not (among ws w)) refl
+  where
+    go : (b : Bool) → (isWord w && not (among ws w)) ≡ b → Separate (if b then ws ++ (w ∷ []) else ws)
+    go true e = let p = and₂ (isWord w) (not (among ws w)) e in separate-last ws w s (p .0) (not-true (among ws w) (p .1))
+    go false e = s
+
+separate-words : (i : Bytes) (ws : List Bytes) (w : Bytes) → Separate ws → Separate (wordsFrom ws w i)
+unfolding wordsFrom if_then_else_
+separate-words [] ws w s = separate-noted ws w s
+separate-words (b ∷ i) ws w s =
+    separate-words i (if inWord b then ws else noted ws w) (if inWord b then w ++ (b ∷ []) else []) (go (inWord b))
+  where
+    go : (c : Bool) → Separate (if c then ws else noted ws w)
+    go true = s
+    go false = separate-noted ws w s
+
+-- `apply` stood once, if at all
+separate-holds : (ws : List Bytes) → Separate ws → among ws (bytes "apply") ≡ false → wordsHold ws ≡ true
+unfolding Separate among wordsHold
+separate-holds [] s h = refl
+separate-holds (w ∷ ws) s h =
+    let p = or-false (sameBytes w (bytes "apply")) (among ws (bytes "apply")) h in
+    rw (s .0, p .0, s .1) (separate-holds ws (s .2) (p .1))
+
+among-without : (ws : List Bytes) (v : Bytes) → among ws v ≡ false → among (withoutApply ws) v ≡ false
+unfolding among withoutApply if_then_else_
+among-without [] v h = refl
+among-without (w ∷ ws) v h = go (sameBytes w (bytes "apply")) (among-without ws v (p .1))
+  where
+    p : (sameBytes w v ≡ false) × (among ws v ≡ false)
+    p = or-false (sameBytes w v) (among ws v) h
+
+    go : (b : Bool) → among (withoutApply ws) v ≡ false → among (if b then ws else w ∷ withoutApply ws) v ≡ false
+    go true k = p .1
+    go false k = rw (p .0) k
+
+without-holds : (ws : List Bytes) → Separate ws → wordsHold (withoutApply ws) ≡ true
+unfolding Separate withoutApply wordsHold if_then_else_
+without-holds [] s = refl
+without-holds (w ∷ ws) s = go (sameBytes w (bytes "apply")) refl (without-holds ws (s .2))
+  where
+    go : (b : Bool) → sameBytes w (bytes "apply") ≡ b → wordsHold (withoutApply ws) ≡ true
+        → wordsHold (if b then ws else w ∷ withoutApply ws) ≡ true
+    go true e k = separate-holds ws (s .2) (rw (same-true w (bytes "apply") e) at (s .1))
+    go false e k = rw (s .0, e, among-without ws w (s .1)) k
+
+pub dictionary-holds : (t : Bytes) → wordsHold (dictionary t) ≡ true
+unfolding dictionary wordsOf Separate
+dictionary-holds t = without-holds (wordsOf t) (separate-words t [] [] tt)
+
+without-length : (ws : List Bytes) → length (withoutApply ws) ≤ length ws
+unfolding withoutApply if_then_else_
+without-length [] = omega arith
+without-length (w ∷ ws) = go (sameBytes w (bytes "apply")) (without-length ws)
+  where
+    go : (b : Bool) → length (withoutApply ws) ≤ length ws → length (if b then ws else w ∷ withoutApply ws) ≤ suc (length ws)
+    go true k = omega arith
+    go false k = omega arith
+
+pub dictionary-length : (t : Bytes) → length (dictionary t) ≤ length (wordsOf t)
+unfolding dictionary
+dictionary-length t = without-length (wordsOf t)
+
+-- A word once found stays found.
+among-append : (ws vs : List Bytes) (w : Bytes) → among ws w ≡ true → among (ws ++ vs) w ≡ true
+unfolding among
+among-append [] vs w h = absurd (false≢true h)
+among-append (u ∷ ws) vs w h = go (sameBytes u w) h (among-append ws vs w)
+  where
+    go : (b : Bool) → (b || among ws w) ≡ true → (among ws w ≡ true → among (ws ++ vs) w ≡ true) → (b || among (ws ++ vs) w) ≡ true
+    go true k ih = refl
+    go false k ih = ih k
+
+noted-keeps : (ws : List Bytes) (u w : Bytes) → among ws w ≡ true → among (noted ws u) w ≡ true
+unfolding noted if_then_else_
+noted-keeps ws u w h = go (isWord u && not (among ws u))
+  where
+    go : (b : Bool) → among (if b then ws ++ (u ∷ []) else ws) w ≡ true
+    go true = among-append ws (u ∷ []) w h
+    go false = h
+
+words-keep : (i : Bytes) (ws : List Bytes) (u w : Bytes) → among ws w ≡ true → among (wordsFrom ws u i) w ≡ true
+unfolding wordsFrom if_then_else_
+words-keep [] ws u w h = noted-keeps ws u w h
+words-keep (b ∷ i) ws u w h =
+    words-keep i (if inWord b then ws else noted ws u) (if inWord b then u ++ (b ∷ []) else []) w (go (inWord b))
+  where
+    go : (c : Bool) → among (if c then ws else noted ws u) w ≡ true
+    go true = h
+    go false = noted-keeps ws u w h
+
+among-end : (ws : List Bytes) (w : Bytes) → among (ws ++ (w ∷ [])) w ≡ true
+unfolding among
+among-end [] w = rw (same-refl w)
+among-end (u ∷ ws) w = or-right (sameBytes u w) (among-end ws w)
+
+-- It is found where its run of letters and digits ends, wherever that began.
+noted-finds : (ws : List Bytes) (w : Bytes) → isWord w ≡ true → among (noted ws w) w ≡ true
+unfolding noted if_then_else_
+noted-finds ws w h = go (among ws w) refl
+  where
+    go : (b : Bool) → among ws w ≡ b → among (noted ws w) w ≡ true
+    go true e = noted-keeps ws w w e
+    go false e = rw (h, e) (among-end ws w)
+
+words-in : (b : ℕ) (i : Bytes) (ws : List Bytes) (w : Bytes) → inWord b ≡ true
+    → wordsFrom ws w (b ∷ i) ≡ wordsFrom ws (w ++ (b ∷ [])) i
+unfolding wordsFrom if_then_else_
+words-in b i ws w h = rw h
+
+words-out : (b : ℕ) (i : Bytes) (ws : List Bytes) (w : Bytes) → inWord b ≡ false
+    → wordsFrom ws w (b ∷ i) ≡ wordsFrom (noted ws w) [] i
+unfolding wordsFrom if_then_else_
+words-out b i ws w h = rw h
+
+words-find : (j : Bytes) (ws : List Bytes) (w : Bytes) → isWord w ≡ true → Ends j → among (wordsFrom ws w j) w ≡ true
+unfolding wordsFrom
+words-find [] ws w h e = noted-finds ws w h
+words-find (b ∷ j) ws w h e = rw (words-out b j ws w e) (words-keep j (noted ws w) [] w (noted-finds ws w h))
+
+words-run : (v j : Bytes) (ws : List Bytes) (w : Bytes) → all inWord v ≡ true → wordsFrom ws w (v ++ j) ≡ wordsFrom ws (w ++ v) j
+unfolding all
+words-run [] j ws w h = ap (λ u. wordsFrom ws u j) (sym (append-nil w))
+words-run (b ∷ v) j ws w h =
+    let p = and₂ (inWord b) (all inWord v) h in
+    words-in b (v ++ j) ws w (p .0) ∙ words-run v j ws (w ++ (b ∷ [])) (p .1) ∙ ap (λ u. wordsFrom ws u j) (append-assoc w (b ∷ []) v)
+
+first-found : (v j : Bytes) (ws : List Bytes) → isWord v ≡ true → Ends j → among (wordsFrom ws [] (v ++ j)) v ≡ true
+first-found v j ws h e = rw (words-run v j ws [] (word-parts v h .1)) (words-find j ws v h e)
+
+later-found : (p : Bytes) (b : ℕ) (v j : Bytes) (ws : List Bytes) (w : Bytes) → inWord b ≡ false → isWord v ≡ true → Ends j
+    → among (wordsFrom ws w (p ++ (b ∷ (v ++ j)))) v ≡ true
+unfolding wordsFrom if_then_else_
+later-found [] b v j ws w n h e = rw (words-out b (v ++ j) ws w n) (first-found v j (noted ws w) h e)
+later-found (c ∷ p) b v j ws w n h e =
+    later-found p b v j (if inWord c then ws else noted ws w) (if inWord c then w ++ (c ∷ []) else []) n h e
+
+-- what is found has a number
+without-keeps : (ws : List Bytes) (w : Bytes) → sameBytes w (bytes "apply") ≡ false → among ws w ≡ true
+    → among (withoutApply ws) w ≡ true
+unfolding among withoutApply if_then_else_
+without-keeps [] w n h = h
+without-keeps (u ∷ ws) w n h = go (sameBytes u (bytes "apply")) refl (sameBytes u w) refl h (without-keeps ws w n)
+  where
+    go : (a : Bool) → sameBytes u (bytes "apply") ≡ a → (b : Bool) → sameBytes u w ≡ b → (b || among ws w) ≡ true
+        → (among ws w ≡ true → among (withoutApply ws) w ≡ true) → among (if a then ws else u ∷ withoutApply ws) w ≡ true
+    go true e true f k ih = absurd (false≢true (sym n ∙ ap (λ v. sameBytes v (bytes "apply")) (sym (same-true u w f)) ∙ e))
+    go true e false f k ih = k
+    go false e true f k ih = rw f
+    go false e false f k ih = rw f (ih k)
+
+place-found : (n : ℕ) (ws : List Bytes) (w : Bytes) → among ws w ≡ true → (x : ℕ) × (place n ws w ≡ some x)
+unfolding among place if_then_else_
+place-found n [] w h = absurd (false≢true h)
+place-found n (u ∷ ws) w h = go (sameBytes u w) h (place-found (suc n) ws w)
+  where
+    go : (b : Bool) → (b || among ws w) ≡ true → (among ws w ≡ true → (x : ℕ) × (place (suc n) ws w ≡ some x))
+        → (x : ℕ) × ((if b then some n else place (suc n) ws w) ≡ some x)
+    go true k ih = (n, refl)
+    go false k ih = ih k
+
+number-found : (t w : Bytes) → among (wordsOf t) w ≡ true → (x : ℕ) × (numberOf (dictionary t) w ≡ some x)
+unfolding numberOf dictionary if_then_else_
+number-found t w h = go (sameBytes w (bytes "apply")) refl
+  where
+    go : (b : Bool) → sameBytes w (bytes "apply") ≡ b
+        → (x : ℕ) × ((if b then some apply else place firstWord (withoutApply (wordsOf t)) w) ≡ some x)
+    go true e = (apply, refl)
+    go false e = place-found firstWord (withoutApply (wordsOf t)) w (without-keeps (wordsOf t) w e h)
+
+-- Each word that stands in a text, first or behind a byte that is no letter or digit, has a number there.
+pub first-known : (v j : Bytes) → isWord v ≡ true → Ends j → (x : ℕ) × (numberOf (dictionary (v ++ j)) v ≡ some x)
+unfolding wordsOf
+first-known v j h e = number-found (v ++ j) v (first-found v j [] h e)
+
+pub later-known : (p : Bytes) (b : ℕ) (v j : Bytes) → inWord b ≡ false → isWord v ≡ true → Ends j
+    → (x : ℕ) × (numberOf (dictionary (p ++ (b ∷ (v ++ j)))) v ≡ some x)
+unfolding wordsOf
+later-known p b v j n h e = number-found (p ++ (b ∷ (v ++ j))) v (later-found p b v j [] [] n h e)

@@ -1,0 +1,248 @@
+-- What the reader accepts is grammatical and prints as the text that was read: by induction on the fuel, each reader of a form
+-- being sound if the reader of its expressions is. Assumes nothing.
+use mathlib.Core.Path.{_≡_, refl, sym, ap, ap₂, _∙_}
+use mathlib.Core.Bool.{true}
+use mathlib.Core.List.{List, [], _∷_, _++_, map, append-assoc}
+use Prim.Native.Nat.{ℕ, zero, suc, _≤_}
+use native.Mathlib.Omega.{arith}
+use lib.ListN.{length}
+use lib.Dec.{eqb}
+use borrow.Author.Tests.{eqb-true}
+use Rattle.atlite.specs.Base.{Base, bytes, sameBytes, all}
+use Rattle.atlite.specs.Term.{this}
+use Rattle.atlite.specs.Lexicon.{Bytes, isWord, isNumber, numberOf}
+use Rattle.atlite.specs.Script.{Src, Srcs, nil, cons, noField, field, noMethod, method, Line, expression, define}
+use Rattle.atlite.specs.Printer.{Printer, form, printWord, known, print, printAll, printFields, printMethods, printLine, printScript, printKind}
+use Rattle.atlite.specs.Reader.{Reading, item, after, atom, readAtom, readWord, spaced, spacedWord, readItems, readArgs, readParams, readNames, readHead, readFields, readMethods, Operator, plus, percent, get, set, call, send, ask, letIn, future, fn, resolve, when, seq, literal, spelling, operator, readTwo, readBetween, readMessage, readForm, readExpr, readDefinition, readLine, readLines}
+use Rattle.atlite.specs.Valid.{isName}
+use Rattle.atlite.specs.Table.{countSrcs, countFields, countMethods, Named, Grammatical, GrammaticalAll, GrammaticalFields, GrammaticalMethods, GrammaticalLines}
+use Rattle.atlite.specs.Facts.{both₂, or-right, same-true, Every, holds, nothing, every-bind, every-weaken, checked, every-found, every-if, every-test, every-option}
+use Rattle.reading.specs.Numbers.{number-print, number-top}
+use Rattle.reading.specs.Words.{number-word}
+use Rattle.reading.specs.Items.{behind, closing, behind-append, form-closing, item-whole, eat-reads, after-whole, operator-word}
+
+-- What a reader gives has the property G, and its text stood before what is left.
+abbrev pub Sound : {A : Type 0} → (A → Type 0) → (A → Bytes) → Reading A → Type 0
+Sound G text R = (i : Bytes) → Every (λ r. G (r .0) × (text (r .0) ++ r .1 ≡ i)) (R i)
+
+spaced-sound : {A : Type 0} (G : A → Type 0) (text : A → Bytes) (R : Reading A) → Sound G text R
+    → Sound G (λ a. 32 ∷ text a) (spaced R)
+unfolding spaced
+spaced-sound G text R s i =
+    every-bind (eat-reads 32 i) (λ j p. every-weaken (s j) (λ r q. (q .0, ap {B = Bytes} (λ k. 32 ∷ k) (q .1) ∙ p)))
+
+-- Items are as many as allowed, whatever builds their list: Text is the text of the list with its closing bracket.
+items-sound :
+    {A L : Type 0} (end : L) (more : A → L → L) (G : A → Type 0) (text : A → Bytes) (R : Reading A)
+    (H : ℕ → L → Type 0) (Text : L → Bytes → Bytes) → Sound G text R
+    → ((k : ℕ) → H k end) → ((k : ℕ) (a : A) (l : L) → G a → H k l → H (suc k) (more a l))
+    → ((j : Bytes) → Text end j ≡ 41 ∷ j) → ((a : A) (l : L) (j : Bytes) → Text (more a l) j ≡ 32 ∷ (text a ++ Text l j))
+    → (k : ℕ) (i : Bytes) → Every (λ r. H k (r .0) × (Text (r .0) (r .1) ≡ i)) (readItems end more R k i)
+unfolding readItems
+items-sound end more G text R H Text s h₀ h₁ t₀ t₁ zero i = every-bind (eat-reads 41 i) (λ j p. holds (h₀ zero, t₀ j ∙ p))
+items-sound end more G text R H Text s h₀ h₁ t₀ t₁ (suc k) i =
+    every-option (after (41 ∷ []) i)
+    (λ e. every-bind (spaced-sound G text R s i) (λ (a, i₁) p.
+    every-bind (items-sound end more G text R H Text s h₀ h₁ t₀ t₁ k i₁) (λ (l, i₂) q.
+    holds (h₁ k a l (p .0) (q .0), t₁ a l i₂ ∙ ap {B = Bytes} (λ j. 32 ∷ (text a ++ j)) (q .1) ∙ p .1))))
+    (λ j e. holds (h₀ (suc k), t₀ j ∙ after-whole (41 ∷ []) i j e))
+
+-- the text of a form, from the text behind its operator
+built : (w : Bytes) (items : List Bytes) (i j : Bytes) → closing items j ≡ i → form (w ∷ items) ++ j ≡ 40 ∷ (w ++ i)
+built w items i j p = form-closing w items j ∙ ap {B = Bytes} (λ k. 40 ∷ (w ++ k)) p
+
+module _ (ws : List Bytes) where
+  word-sound : Sound (Named (length ws)) (printWord ws) (readWord ws)
+  unfolding readWord
+  word-sound i =
+      checked 2 (isWord (item i .0)) (λ h. every-found 2 (numberOf ws (item i .0)) (λ x e.
+      let p = number-word ws (item i .0) x e in
+      holds (p .1, ap {B = Bytes} (λ w. w ++ item i .1) (p .0) ∙ item-whole i)))
+
+  spacedWord-sound : Sound (Named (length ws)) (λ x. 32 ∷ printWord ws x) (spacedWord ws)
+  unfolding spacedWord
+  spacedWord-sound i = spaced-sound (Named (length ws)) (printWord ws) (readWord ws) word-sound i
+
+  atom-sound : (w : Bytes) → Every (λ e. Grammatical (length ws) e × (print ws e ≡ w)) (atom ws w)
+  unfolding atom Grammatical print printWord known Base
+  atom-sound w =
+      every-if (isNumber w) (λ h. holds (number-top w h, number-print w h))
+      (λ _. every-if (sameBytes w (bytes "null")) (λ h. holds (tt, sym (same-true w (bytes "null") h)))
+      (λ _. every-if (sameBytes w (bytes "this")) (λ h. holds (refl, sym (same-true w (bytes "this") h)))
+      (λ _. checked 2 (isWord w) (λ _. every-found 2 (numberOf ws w) (λ x e.
+      let p = number-word ws w x e in holds (or-right (eqb x this) (p .1), p .0))))))
+
+  readAtom-sound : Sound (Grammatical (length ws)) (print ws) (readAtom ws)
+  unfolding readAtom
+  readAtom-sound i =
+      every-bind (atom-sound (item i .0)) (λ e p. holds (p .0, ap {B = Bytes} (λ w. w ++ item i .1) (p .1) ∙ item-whole i))
+
+  -- a list of parameters: at most k of them, all names
+  Params : ℕ → List ℕ → Type 0
+  Params k xs = (length xs ≤ k) × (all (isName (length ws)) xs ≡ true)
+
+  params-sound : (i : Bytes) → Every (λ r. Params 2 (r .0) × (closing (map (printWord ws) (r .0)) (r .1) ≡ i)) (readParams ws i)
+  unfolding readParams Params all
+  params-sound i =
+      items-sound [] _∷_ (Named (length ws)) (printWord ws) (readWord ws) Params (λ xs j. closing (map (printWord ws) xs) j) word-sound
+      (λ k. (omega arith, refl)) (λ k x xs g h. let l = h .0 in (omega arith, both₂ g (h .1))) (λ j. refl) (λ x xs j. refl) 2 i
+
+  head-sound : (i : Bytes) → Every (λ r. Params 3 (r .0) × (32 ∷ (form (map (printWord ws) (r .0)) ++ r .1) ≡ i)) (readHead ws i)
+  unfolding readHead readNames Params all Base Printer
+  head-sound i =
+      every-found 2 (after (bytes " (") i) (λ i₁ e.
+      let p = after-whole (bytes " (") i i₁ e in
+      every-option (after (41 ∷ []) i₁)
+      (λ _. every-bind (word-sound i₁) (λ (x, i₂) q. every-bind (params-sound i₂) (λ (xs, i₃) r.
+      let l = r .0 .0 in
+      let t = form-closing (printWord ws x) (map (printWord ws) xs) i₃ in
+      holds ((omega arith, both₂ (q .0) (r .0 .1)), cc (t, r .1, q .1, p)))))
+      (λ j f. holds ((omega arith, refl), ap {B = Bytes} (λ k. 32 ∷ 40 ∷ k) (after-whole (41 ∷ []) i₁ j f) ∙ p)))
+
+  module _ (R : Reading Src) (s : Sound (Grammatical (length ws)) (print ws) R) where
+    next : Sound (Grammatical (length ws)) (λ e. 32 ∷ print ws e) (spaced R)
+    next i = spaced-sound (Grammatical (length ws)) (print ws) R s i
+
+    args-sound : (i : Bytes)
+        → Every (λ r. ((countSrcs (r .0) ≤ 3) × GrammaticalAll (length ws) (r .0)) × (closing (printAll ws (r .0)) (r .1) ≡ i))
+        (readArgs R i)
+    unfolding readArgs countSrcs Grammatical print
+    args-sound i =
+        items-sound nil cons (Grammatical (length ws)) (print ws) R (λ k es. (countSrcs es ≤ k) × GrammaticalAll (length ws) es)
+        (λ es j. closing (printAll ws es) j) s
+        (λ k. (omega arith, tt)) (λ k e es g h. let l = h .0 in (omega arith, (g, h .1))) (λ j. refl) (λ e es j. refl) 3 i
+
+    fields-sound : (k : ℕ) (i : Bytes)
+        → Every (λ r. (countFields (r .0) ≤ k) × GrammaticalFields (length ws) (r .0) × (behind (printFields ws (r .0)) (r .1) ≡ i))
+        (readFields ws R k i)
+    unfolding readFields countFields Grammatical print Base
+    fields-sound zero i = holds {a = (noField, i)} (omega arith, tt, refl)
+    fields-sound (suc k) i =
+        every-option (after (bytes " (field ") i) (λ _. holds (omega arith, tt, refl)) (λ i₁ h.
+        every-bind (word-sound i₁) (λ (f, i₂) p. every-bind (next i₂) (λ (e, i₃) q. every-bind (eat-reads 41 i₃) (λ i₄ u.
+        every-bind (fields-sound k i₄) (λ (fs, i₅) r.
+        let l = r .0 in
+        let t = form-closing (bytes "field") (printWord ws f ∷ print ws e ∷ []) (behind (printFields ws fs) i₅) in
+        holds (omega arith, (p .0, q .0, r .1), cc (t, p .1, q .1, u, r .2, after-whole (bytes " (field ") i i₁ h)))))))
+
+    methods-sound : (k : ℕ) (i : Bytes)
+        → Every (λ r. (countMethods (r .0) ≤ k) × GrammaticalMethods (length ws) (r .0) × (behind (printMethods ws (r .0)) (r .1) ≡ i))
+        (readMethods ws R k i)
+    unfolding readMethods countMethods Grammatical print Params Base
+    methods-sound zero i = holds {a = (noMethod, i)} (omega arith, tt, refl)
+    methods-sound (suc k) i =
+        every-option (after (bytes " (method ") i) (λ _. holds (omega arith, tt, refl)) (λ i₁ h.
+        every-bind (word-sound i₁) (λ (m, i₂) p. every-bind (head-sound i₂) (λ (xs, i₃) v. every-bind (next i₃) (λ (e, i₄) q.
+        every-bind (eat-reads 41 i₄) (λ i₅ u. every-bind (methods-sound k i₅) (λ (ms, i₆) r.
+        let l = r .0 in
+        let t =
+        form-closing (bytes "method") (printWord ws m ∷ form (map (printWord ws) xs) ∷ print ws e ∷ []) (behind (printMethods ws ms) i₆) in
+        holds (
+          omega arith,
+          (p .0, v .0 .0, v .0 .1, q .0, r .1),
+          cc (t, p .1, v .1, q .1, u, r .2, after-whole (bytes " (method ") i i₁ h),
+        )))))))
+
+    two-sound : (c : Src → Src → Src) (Q : Src × Bytes → Type 0) (i : Bytes)
+        → ((a b : Src) (j : Bytes) → Grammatical (length ws) a → Grammatical (length ws) b
+        → closing (print ws a ∷ print ws b ∷ []) j ≡ i → Q (c a b, j))
+        → Every Q (readTwo c R i)
+    unfolding readTwo
+    two-sound c Q i k =
+        every-bind (next i) (λ (a, i₁) p. every-bind (next i₁) (λ (b, i₂) q. every-bind (eat-reads 41 i₂) (λ j u.
+        holds (k a b j (p .0) (q .0) (cc (p .1, q .1, u))))))
+
+    between-sound : (c : Src → ℕ → Src → Src) (Q : Src × Bytes → Type 0) (i : Bytes)
+        → ((a : Src) (x : ℕ) (b : Src) (j : Bytes) → Grammatical (length ws) a → Named (length ws) x → Grammatical (length ws) b
+        → closing (print ws a ∷ printWord ws x ∷ print ws b ∷ []) j ≡ i → Q (c a x b, j))
+        → Every Q (readBetween c ws R i)
+    unfolding readBetween
+    between-sound c Q i k =
+        every-bind (next i) (λ (a, i₁) p. every-bind (spacedWord-sound i₁) (λ (x, i₂) v. every-bind (next i₂) (λ (b, i₃) q.
+        every-bind (eat-reads 41 i₃) (λ j u. holds (k a x b j (p .0) (v .0) (q .0) (cc (p .1, v .1, q .1, u)))))))
+
+    message-sound : (c : Src → ℕ → Srcs → Src) (Q : Src × Bytes → Type 0) (i : Bytes)
+        → ((e : Src) (m : ℕ) (es : Srcs) (j : Bytes)
+        → Grammatical (length ws) e × Named (length ws) m × (countSrcs es ≤ 3) × GrammaticalAll (length ws) es
+        → closing (print ws e ∷ printWord ws m ∷ printAll ws es) j ≡ i → Q (c e m es, j))
+        → Every Q (readMessage c ws R i)
+    unfolding readMessage
+    message-sound c Q i k =
+        every-bind (next i) (λ (e, i₁) p. every-bind (spacedWord-sound i₁) (λ (m, i₂) v. every-bind (args-sound i₂) (λ (es, j) q.
+        holds (k e m es j (p .0, v .0, q .0 .0, q .0 .1) (cc (p .1, v .1, q .1))))))
+
+    form-sound : (o : Operator) (i : Bytes)
+        → Every (λ r. Grammatical (length ws) (r .0) × (print ws (r .0) ++ r .1 ≡ 40 ∷ (spelling o ++ i))) (readForm o ws R i)
+    unfolding readForm spelling Grammatical print
+    form-sound plus i = two-sound Src.plus _ i (λ a b j g h p. ((g, h), built (bytes "plus") _ i j p))
+    form-sound percent i = two-sound Src.percent _ i (λ a b j g h p. ((g, h), built (bytes "percent") _ i j p))
+    form-sound get i =
+        every-bind (next i) (λ (e, i₁) p. every-bind (spacedWord-sound i₁) (λ (f, i₂) v. every-bind (eat-reads 41 i₂) (λ j u.
+        holds ((p .0, v .0), built (bytes "get") (print ws e ∷ printWord ws f ∷ []) i j (cc (p .1, v .1, u))))))
+    form-sound set i = between-sound Src.set _ i (λ a x b j g n h p. ((g, n, h), built (bytes "set") _ i j p))
+    form-sound call i = message-sound Src.call _ i (λ e m es j g p. (g, built (bytes "call") _ i j p))
+    form-sound send i = message-sound Src.send _ i (λ e m es j g p. (g, built (bytes "send") _ i j p))
+    form-sound ask i = message-sound Src.ask _ i (λ e m es j g p. (g, built (bytes "ask") _ i j p))
+    form-sound letIn i =
+        every-bind (spacedWord-sound i) (λ (x, i₁) v. every-bind (next i₁) (λ (e, i₂) p.
+        every-bind (next i₂) (λ (d, i₃) q. every-bind (eat-reads 41 i₃) (λ j u.
+        holds ((v .0, p .0, q .0), built (bytes "let") (printWord ws x ∷ print ws e ∷ print ws d ∷ []) i j (cc (v .1, p .1, q .1, u)))))))
+    form-sound future i =
+        every-bind (spacedWord-sound i) (λ (x, i₁) v. every-bind (spacedWord-sound i₁) (λ (y, i₂) q.
+        every-bind (next i₂) (λ (e, i₃) p. every-bind (eat-reads 41 i₃) (λ j u.
+        holds ((v .0, q .0, p .0), built (bytes "future") (printWord ws x ∷ printWord ws y ∷ print ws e ∷ []) i j (cc (v .1, p .1, q .1, u)))))))
+    form-sound fn i =
+        every-bind (spacedWord-sound i) (λ (x, i₁) v. every-bind (next i₁) (λ (e, i₂) p. every-bind (eat-reads 41 i₂) (λ j u.
+        holds ((v .0, p .0), built (bytes "fn") (printWord ws x ∷ print ws e ∷ []) i j (cc (v .1, p .1, u))))))
+    form-sound resolve i = two-sound Src.resolve _ i (λ a b j g h p. ((g, h), built (bytes "resolve") _ i j p))
+    form-sound when i = between-sound Src.when _ i (λ a x b j g n h p. ((g, n, h), built (bytes "when") _ i j p))
+    form-sound seq i = two-sound Src.seq _ i (λ a b j g h p. ((g, h), built (bytes "seq") _ i j p))
+    form-sound (literal k) i =
+        every-bind (fields-sound 4 i) (λ (fs, i₁) p. every-bind (methods-sound 4 i₁) (λ (ms, i₂) q. every-bind (eat-reads 41 i₂) (λ j u.
+        let t = behind-append (printFields ws fs) (printMethods ws ms) (41 ∷ j) in
+        holds ((p .0, p .1, q .0, q .1), built (printKind k) (printFields ws fs ++ printMethods ws ms) i j (cc (t, p .2, q .2, u))))))
+
+  pub expr-sound : (n : ℕ) → Sound (Grammatical (length ws)) (print ws) (readExpr n ws)
+  unfolding readExpr
+  expr-sound zero i = nothing
+  expr-sound (suc n) [] = nothing
+  expr-sound (suc n) (b ∷ i) =
+      every-test (eqb b 40)
+      (λ h. every-found 2 (operator (item i .0)) (λ o e.
+      every-weaken (form-sound (readExpr n ws) (λ j. expr-sound n j) o (item i .1)) (λ r p. (
+        p .0,
+        p .1 ∙ ap₂ {C = Bytes} (λ c w. c ∷ (w ++ item i .1)) (sym (eqb-true b 40 h)) (operator-word (item i .0) o e)
+            ∙ ap {B = Bytes} (λ j. b ∷ j) (item-whole i),
+      ))))
+      (λ _. readAtom-sound (b ∷ i))
+
+  abbrev pub GrammaticalLine : Line → Type 0
+  GrammaticalLine (expression e) = Grammatical (length ws) e
+  GrammaticalLine (define x e) = Named (length ws) x × Grammatical (length ws) e
+
+  line-sound : (n : ℕ) (i : Bytes) → Every (λ r. GrammaticalLine (r .0) × (printLine ws (r .0) ++ r .1 ≡ i)) (readLine n ws i)
+  unfolding readLine readDefinition printLine Base
+  line-sound n i =
+      every-option (after (bytes "(def ") i)
+      (λ _. every-bind (expr-sound n i) (λ (e, i₁) p. every-bind (eat-reads 10 i₁) (λ j u.
+      holds (p .0, cc (append-assoc (print ws e) (10 ∷ []) j, p .1, u)))))
+      (λ i₁ h. every-bind (word-sound i₁) (λ (x, i₂) v.
+      every-bind (spaced-sound (Grammatical (length ws)) (print ws) (readExpr n ws) (expr-sound n) i₂) (λ (e, i₃) p.
+      every-bind (eat-reads 41 i₃) (λ i₄ u. every-bind (eat-reads 10 i₄) (λ j y.
+      let w = form (bytes "def" ∷ printWord ws x ∷ print ws e ∷ []) in
+      let t = form-closing (bytes "def") (printWord ws x ∷ print ws e ∷ []) (10 ∷ j) in
+      holds ((v .0, p .0), cc (append-assoc w (10 ∷ []) j, t, v .1, p .1, u, y, after-whole (bytes "(def ") i i₁ h)))))))
+
+  grammatical-cons : (l : Line) (ls : List Line) → GrammaticalLine l → GrammaticalLines (length ws) ls
+      → GrammaticalLines (length ws) (l ∷ ls)
+  unfolding GrammaticalLines
+  grammatical-cons (expression e) ls h k = (h, k)
+  grammatical-cons (define x e) ls h k = (h .0, h .1, k)
+
+  pub lines-sound : (n : ℕ) (i : Bytes) → Every (λ ls. GrammaticalLines (length ws) ls × (printScript ws ls ≡ i)) (readLines n ws i)
+  unfolding readLines printScript GrammaticalLines
+  lines-sound zero i = nothing
+  lines-sound (suc n) [] = holds {a = []} (tt, refl)
+  lines-sound (suc n) (b ∷ i) =
+      every-bind (line-sound (suc n) (b ∷ i)) (λ (l, i₁) p. every-bind (lines-sound n i₁) (λ ls q.
+      holds (grammatical-cons l ls (p .0) (q .0), ap {B = Bytes} (λ j. printLine ws l ++ j) (q .1) ∙ p .1)))
