@@ -1,0 +1,7 @@
+pub mod Machine
+pub mod Actors
+pub mod Lists
+pub mod Follow
+pub mod Stable
+pub mod Instance
+pub mod Others
