@@ -1,0 +1,14 @@
+pub mod Terms
+pub mod Forms
+pub mod Own
+pub mod Passed
+pub mod Effects
+pub mod States
+pub mod TermTests
+pub mod Tests
+pub mod Working
+pub mod Moves
+pub mod Enough
+pub mod Expanded
+pub mod Loads
+pub mod Counts
