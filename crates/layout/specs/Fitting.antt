@@ -1,0 +1,177 @@
+-- What is well formed fits its bits: at most 64 words make names below 127, and lists keep the text's limits. By induction on the
+-- term. Assumes nothing.
+use Prim.Native.Nat.{ℕ, suc, _+_, _≤_, _<_}
+use mathlib.Core.Path.{_≡_, refl, ap}
+use mathlib.Core.Bool.{Bool, true, false, not, false≢true}
+use mathlib.Core.List.{List, [], _∷_, _++_}
+use native.Mathlib.Omega.{arith}
+use borrow.Author.Tests.{ltb-true, leb-true, eqb-true}
+use lib.ListN.{length}
+use lib.Dec.{eqb, leb, ltb}
+use Rattle.atlite.specs.Base.{member, distinct, all, if_then_else_}
+use Rattle.atlite.specs.Term.{this, apply, firstWord, Value, null, num, ref, Name, plain, twoWay, resolve, register, Kind, Term, val, var, plus, percent, get, set, call, send, letIn, future, literal, Terms, nil, cons, Inits, noField, Methods, noMethod, method, countTerms, initNames, methodNames, seen, top}
+use Rattle.atlite.specs.Valid.{isName, isVariable, sendable, callable, unreferring, namesWithin, parameters}
+use Rattle.atlite.specs.ValidTest.{held, wellFormed, wellFormedAll, wellFormedInits, wellFormedMethods}
+use Rattle.atlite.specs.Facts.{and₂, and₃, and₄}
+use Rattle.layout.specs.Terms.{countInits, countMethods}
+use Rattle.layout.specs.PackLaws.{NameFits, Each, each-append}
+use Rattle.layout.specs.TermLaws.{ValueFits, NameOk, Fits, FitsAll, FitsInits, FitsMethods}
+
+pub each-all : {A : Type 0} (P : A → Type 0) (p : A → Bool) (f : (x : A) → p x ≡ true → P x) (xs : List A) → all p xs ≡ true → Each P xs
+unfolding all
+each-all P p f [] h = tt
+each-all P p f (x ∷ xs) h = let r = and₂ (p x) (all p xs) h in (f x (r .0), each-all P p f xs (r .1))
+
+module _ (w : ℕ) (l : w ≤ 64) where
+  pub name-fits : (x : ℕ) → isName w x ≡ true → NameFits x
+  unfolding isName
+  name-fits x h =
+      let r = and₂ (leb apply x) (ltb x (firstWord + w)) h in
+      let b : x < firstWord + w = ltb-true x (firstWord + w) (r .1) in
+      omega arith
+
+  pub variable-fits : (x : ℕ) → isVariable w x ≡ true → NameFits x
+  unfolding isVariable
+  variable-fits x h =
+      let r = and₂ (ltb this x) (ltb x (firstWord + w)) h in
+      let b : x < firstWord + w = ltb-true x (firstWord + w) (r .1) in
+      omega arith
+
+  pub send-fits : (m : Name) (n : ℕ) → sendable w m n ≡ true → NameOk m × (n ≤ 4)
+  unfolding sendable
+  send-fits (plain m) n h =
+      let r = and₂ (isName w m) (leb n 3) h in let b = leb-true n 3 (r .1) in (name-fits m (r .0), omega arith)
+  send-fits (twoWay m) n h =
+      let r = and₃ (isName w m) (ltb 0 n) (leb n 4) h in let b = leb-true n 4 (r .2) in (name-fits m (r .0), omega arith)
+  send-fits resolve n h = let b = eqb-true n 1 h in (tt, omega arith)
+  send-fits register n h = let b = eqb-true n 1 h in (tt, omega arith)
+
+  pub call-fits : (m : Name) (n : ℕ) → callable w m n ≡ true → NameOk m × (n ≤ 4)
+  unfolding callable
+  call-fits (plain m) n h =
+      let r = and₂ (isName w m) (leb n 3) h in let b = leb-true n 3 (r .1) in (name-fits m (r .0), omega arith)
+  call-fits (twoWay m) n h = absurd (false≢true h)
+  call-fits resolve n h = let b = eqb-true n 1 h in (tt, omega arith)
+  call-fits register n h = absurd (false≢true h)
+
+pub plain-fits : (v : Value) → unreferring v ≡ true → ValueFits v
+unfolding unreferring
+plain-fits null h = tt
+plain-fits (num n) h = let b = leb-true n top h in omega arith
+plain-fits (ref a s n) h = absurd (false≢true h)
+
+-- words that may stand in a variable
+abbrev pub Known : List ℕ → Type 0
+Known xs = Each NameFits xs
+
+known-or : (x y : ℕ) (r : Bool) (b : Bool) → eqb x y ≡ b → NameFits y → (r ≡ true → NameFits x) → (if b then true else r) ≡ true → NameFits x
+unfolding if_then_else_
+known-or x y r true e k f h = let q = eqb-true x y e in omega arith
+known-or x y r false e k f h = f h
+
+member-known : (x : ℕ) (xs : List ℕ) → Known xs → member x xs ≡ true → NameFits x
+unfolding member
+member-known x [] k h = absurd (false≢true h)
+member-known x (y ∷ ys) k h = known-or x y (member x ys) (eqb x y) refl (k .0) (λ q. member-known x ys (k .1) q) h
+
+known-seen : (k : Kind) (xs : List ℕ) → Known xs → Known (seen k xs)
+unfolding seen
+known-seen Kind.object xs h = h
+known-seen Kind.isolate xs h = tt
+known-seen Kind.actor xs h = tt
+
+held-fits : (k : Kind) (p : Value → Bool) → ((v : Value) → p v ≡ true → ValueFits v) → (v : Value) → held k p v ≡ true → ValueFits v
+unfolding held
+held-fits Kind.object p f v h = f v h
+held-fits Kind.isolate p f v h = plain-fits v h
+held-fits Kind.actor p f v h = plain-fits v h
+
+mutual
+  unfolding countInits initNames
+
+  count-inits : (fs : Inits) → countInits fs ≡ length (initNames fs)
+  count-inits noField = refl
+  count-inits (Inits.field f e fs) = ap suc (count-inits fs)
+
+mutual
+  unfolding countMethods methodNames
+
+  pub count-methods : (ms : Methods) → countMethods ms ≡ length (methodNames ms)
+  count-methods noMethod = refl
+  count-methods (method m xs e ms) = ap suc (count-methods ms)
+
+pub within-fits : (w : ℕ) → w ≤ 64 → (k : ℕ) (xs : List ℕ) → namesWithin k w xs ≡ true → (length xs ≤ k) × Each NameFits xs
+unfolding namesWithin
+within-fits w l k xs h =
+    let r = and₃ (leb (length xs) k) (distinct xs) (all (isName w) xs) h in
+    (leb-true (length xs) k (r .0), each-all NameFits (isName w) (name-fits w l) xs (r .2))
+
+pub parameters-fit : (w : ℕ) → w ≤ 64 → (xs : List ℕ) → parameters w xs ≡ true → (length xs ≤ 3) × Each NameFits xs
+unfolding parameters
+parameters-fit w l xs h =
+    let r = and₃ (leb (length xs) 3) (distinct xs) (all (isVariable w) xs) h in
+    (leb-true (length xs) 3 (r .0), each-all NameFits (isVariable w) (variable-fits w l) xs (r .2))
+
+abbrev pub Sound : (Value → Bool) → Type 0
+Sound p = (v : Value) → p v ≡ true → ValueFits v
+
+mutual
+  unfolding wellFormed Fits initNames methodNames
+
+  pub fits-term : (e : Term) (w : ℕ) (p : Value → Bool) (xs : List ℕ) → w ≤ 64 → Sound p → Known xs → wellFormed w p xs e ≡ true → Fits e
+  fits-term (val v) w p xs l f k h = f v h
+  fits-term (var x) w p xs l f k h = member-known x xs k h
+  fits-term (plus a b) w p xs l f k h =
+      let r = and₂ (wellFormed w p xs a) (wellFormed w p xs b) h in (fits-term a w p xs l f k (r .0), fits-term b w p xs l f k (r .1))
+  fits-term (percent a b) w p xs l f k h =
+      let r = and₂ (wellFormed w p xs a) (wellFormed w p xs b) h in (fits-term a w p xs l f k (r .0), fits-term b w p xs l f k (r .1))
+  fits-term (get e g) w p xs l f k h =
+      let r = and₂ (isName w g) (wellFormed w p xs e) h in (name-fits w l g (r .0), fits-term e w p xs l f k (r .1))
+  fits-term (set a g b) w p xs l f k h =
+      let r = and₃ (isName w g) (wellFormed w p xs a) (wellFormed w p xs b) h in
+      (name-fits w l g (r .0), fits-term a w p xs l f k (r .1), fits-term b w p xs l f k (r .2))
+  fits-term (call e m es) w p xs l f k h =
+      let r = and₃ (callable w m (countTerms es)) (wellFormed w p xs e) (wellFormedAll w p xs es) h in
+      let q = call-fits w l m (countTerms es) (r .0) in
+      (q .0, omega (arith, q .1), fits-term e w p xs l f k (r .1), fits-all es w p xs l f k (r .2))
+  fits-term (send e m es) w p xs l f k h =
+      let r = and₃ (sendable w m (countTerms es)) (wellFormed w p xs e) (wellFormedAll w p xs es) h in
+      let q = send-fits w l m (countTerms es) (r .0) in
+      (q .0, omega (arith, q .1), fits-term e w p xs l f k (r .1), fits-all es w p xs l f k (r .2))
+  fits-term (letIn x a b) w p xs l f k h =
+      let r = and₃ (isVariable w x) (wellFormed w p xs a) (wellFormed w p (x ∷ xs) b) h in
+      let q = variable-fits w l x (r .0) in
+      (q, fits-term a w p xs l f k (r .1), fits-term b w p (x ∷ xs) l f (q, k) (r .2))
+  fits-term (future x y e) w p xs l f k h =
+      let r = and₄ (isVariable w x) (isVariable w y) (not (eqb x y)) (wellFormed w p (x ∷ y ∷ xs) e) h in
+      let q = variable-fits w l x (r .0) in
+      let q′ = variable-fits w l y (r .1) in
+      (q, q′, fits-term e w p (x ∷ y ∷ xs) l f (q, (q′, k)) (r .3))
+  fits-term (literal t fs ms) w p xs l f k h =
+      let ys = this ∷ seen t xs in
+      let r = and₄ (namesWithin 4 w (initNames fs)) (namesWithin 4 w (methodNames ms)) (wellFormedInits w (held t p) ys fs) (wellFormedMethods w (held t p) ys ms) h in
+      let a = within-fits w l 4 (initNames fs) (r .0) in
+      let b = within-fits w l 4 (methodNames ms) (r .1) in
+      let k′ : Known ys = (omega arith, known-seen t xs k) in (
+        omega (arith, a .0, count-inits fs),
+        omega (arith, b .0, count-methods ms),
+        fits-inits fs w (held t p) ys l (held-fits t p f) k′ (a .1) (r .2),
+        fits-methods ms w (held t p) ys l (held-fits t p f) k′ (b .1) (r .3),
+      )
+
+  fits-all : (es : Terms) (w : ℕ) (p : Value → Bool) (xs : List ℕ) → w ≤ 64 → Sound p → Known xs → wellFormedAll w p xs es ≡ true → FitsAll es
+  fits-all nil w p xs l f k h = tt
+  fits-all (cons e es) w p xs l f k h =
+      let r = and₂ (wellFormed w p xs e) (wellFormedAll w p xs es) h in (fits-term e w p xs l f k (r .0), fits-all es w p xs l f k (r .1))
+
+  fits-inits : (fs : Inits) (w : ℕ) (p : Value → Bool) (xs : List ℕ) → w ≤ 64 → Sound p → Known xs → Each NameFits (initNames fs) → wellFormedInits w p xs fs ≡ true → FitsInits fs
+  fits-inits noField w p xs l f k n h = tt
+  fits-inits (Inits.field g e fs) w p xs l f k n h =
+      let r = and₂ (wellFormed w p xs e) (wellFormedInits w p xs fs) h in (n .0, fits-term e w p xs l f k (r .0), fits-inits fs w p xs l f k (n .1) (r .1))
+
+  pub fits-methods : (ms : Methods) (w : ℕ) (p : Value → Bool) (xs : List ℕ) → w ≤ 64 → Sound p → Known xs → Each NameFits (methodNames ms) → wellFormedMethods w p xs ms ≡ true → FitsMethods ms
+  fits-methods noMethod w p xs l f k n h = tt
+  fits-methods (method m ys e ms) w p xs l f k n h =
+      let r = and₃ (parameters w ys) (wellFormed w p (ys ++ xs) e) (wellFormedMethods w p xs ms) h in
+      let q = parameters-fit w l ys (r .0) in
+      (n .0, q .1, q .0, fits-term e w p (ys ++ xs) l f (each-append NameFits ys xs (q .1) k) (r .1), fits-methods ms w p xs l f k (n .1) (r .2))

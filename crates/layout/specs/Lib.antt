@@ -1,0 +1,37 @@
+-- to be believed: how terms, states and tables stand in words, and what the calls mean
+pub mod Pack
+pub mod Terms
+pub mod Layout
+pub mod Tables
+pub mod Meaning
+-- reading words, which need not be believed
+pub mod Reading
+pub mod TermReading
+pub mod Decode
+pub mod TableReading
+-- states: there and back
+pub mod Results
+pub mod PackLaws
+pub mod ReadLaws
+pub mod TermLaws
+pub mod TermReads
+pub mod Fitting
+pub mod Slots
+pub mod Parts
+pub mod Whole
+pub mod Holds
+pub mod Laws
+pub mod Bits
+-- tables: there and back
+pub mod TableReads
+pub mod TableFitting
+pub mod TableLaws
+pub mod TableBits
+-- the calls
+pub mod Outcomes
+pub mod MeaningLaws
+-- which words a change touches
+pub mod Writes
+pub mod Places
+-- computed examples
+pub mod Shown

@@ -1,0 +1,92 @@
+-- The six calls on lent lists, whatever stands in them: what each returns, and the lent list that it writes, afterwards.
+-- Assumes nothing.
+-- A call is the list of its causes in their order, then its answer with the words or bytes to write. Published lengths come
+-- first (6), then words that are no table or no state (7), then what reading, loading or moving refuses; a text that does not
+-- fit (6 too) comes last. What is written stands in front, and what lies past it is kept; a refusal writes nothing. A list that
+-- a call only reads is not in its reply: it stays as it was.
+use Prim.Native.Nat.{ℕ}
+use mathlib.Core.List.{List, _++_}
+use lib.ListN.{length, take, drop}
+use lib.Dec.{leb}
+use Rattle.atlite.specs.Base.{Result, done, refused, _>>=_, _>>_, _>>_, require, orRefuse}
+use Rattle.atlite.specs.State.{State}
+use Rattle.atlite.specs.Move.{Answer, move}
+use Rattle.atlite.specs.Run.{run, Counts}
+use Rattle.atlite.specs.Listing.{listing}
+use Rattle.atlite.specs.Table.{textOf, Table, read}
+use Rattle.atlite.specs.Load.{load}
+use Rattle.layout.specs.Layout.{stateWords, encode}
+use Rattle.layout.specs.Decode.{stateOf}
+use Rattle.layout.specs.Tables.{tableWords, encodeTable}
+use Rattle.layout.specs.TableReading.{tableOf}
+
+-- what a call returns, and the list that it writes, afterwards
+pub record Reply (A : Type 0) : Type 0 where
+  pub result : Result A
+  pub buffer : List ℕ
+
+-- the reply of a call that is refused, or that answers and writes
+unfoldable pub answered : {A : Type 0} → List ℕ → Result (A × List ℕ) → Reply A
+answered old (refused n) = record { result = refused n; buffer = old }
+answered old (done r) = record { result = done (r .0); buffer = r .1 ++ drop (length (r .1)) old }
+
+-- a lent list has room for n
+unfoldable pub room : ℕ → List ℕ → Result (Unit {0})
+room n w = require 6 (leb n (length w))
+
+-- the table, or the state, that the published words are
+unfoldable pub tableIn : List ℕ → Result Table
+tableIn w = orRefuse 7 (tableOf (take tableWords w))
+
+unfoldable pub stateIn : List ℕ → Result State
+stateIn w = orRefuse 7 (stateOf (take stateWords w))
+
+-- the state in a lent list: 6, then 7
+unfoldable pub lent : List ℕ → Result State
+lent w = room stateWords w >> stateIn w
+
+-- ---- tables
+unfoldable pub readCall : List ℕ → List ℕ → Reply (Unit {0})
+readCall text table = answered table (do
+  room tableWords table
+  T ← read text
+  done (tt, encodeTable T))
+
+unfoldable pub printCall : List ℕ → List ℕ → Reply ℕ
+printCall table text = answered text (do
+  room tableWords table
+  T ← tableIn table
+  room (length (textOf T)) text
+  done (length (textOf T), textOf T))
+
+-- the words that the state's list held do not matter
+unfoldable pub loadCall : List ℕ → List ℕ → Reply (Unit {0})
+loadCall table state = answered state (do
+  room tableWords table
+  room stateWords state
+  T ← tableIn table
+  σ ← load T
+  done (tt, encode σ))
+
+-- ---- states
+unfoldable pub moveCall : List ℕ → ℕ → Reply Answer
+moveCall state a = answered state (do
+  σ ← lent state
+  M ← move σ a
+  done (M .answer, encode (M .state)))
+
+unfoldable pub runCall : List ℕ → List ℕ → Reply Counts
+runCall state entries = answered state (do
+  σ ← lent state
+  let R = run σ entries
+  done (R .counts, encode (R .state)))
+
+unfoldable pub listCall : List ℕ → List ℕ → Reply ℕ
+listCall state text = answered text (do
+  σ ← lent state
+  room (length (listing σ)) text
+  done (length (listing σ), listing σ))
+
+unfoldable pub Meaning : Unit {0}
+unfolding answered room tableIn stateIn lent readCall printCall loadCall moveCall runCall listCall
+Meaning = tt

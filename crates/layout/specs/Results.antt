@@ -1,0 +1,28 @@
+-- What a done result says of the steps that it was made by: each of them was done. Assumes nothing.
+use Prim.Native.Nat.{ℕ}
+use mathlib.Core.Path.{_≡_, refl}
+use mathlib.Core.Bool.{Bool, true, false}
+use mathlib.Core.Option.{Option, none, some}
+use Rattle.atlite.specs.Base.{Result, done, refused, _>>=_, _>>_, require, orRefuse}
+use Rattle.atlite.specs.Facts.{refused-done}
+
+pub done-same : {A : Type 0} (a b : A) → done a ≡ done b → a ≡ b
+done-same a b e = cc
+
+pub bind-done : {A B : Type 0} (r : Result A) (f : A → Result B) (b : B) → (r >>= f) ≡ done b → (a : A) × (r ≡ done a) × (f a ≡ done b)
+bind-done (done a) f b e = (a, refl, e)
+bind-done (refused n) f b e = absurd (refused-done e)
+
+pub then-done : {A : Type 0} (r : Result (Unit {0})) (s : Result A) (a : A) → (r >> s) ≡ done a → (r ≡ done tt) × (s ≡ done a)
+then-done (done u) s a e = (refl, e)
+then-done (refused n) s a e = absurd (refused-done e)
+
+pub require-done : (n : ℕ) (b : Bool) → require n b ≡ done tt → b ≡ true
+unfolding require
+require-done n true e = refl
+require-done n false e = absurd (refused-done e)
+
+pub or-refuse-done : {A : Type 0} (n : ℕ) (o : Option A) (a : A) → orRefuse n o ≡ done a → o ≡ some a
+unfolding orRefuse
+or-refuse-done n none a e = absurd (refused-done e)
+or-refuse-done n (some b) a e = cc

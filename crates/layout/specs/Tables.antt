@@ -1,0 +1,65 @@
+-- The words of a table: 1,280, of which 256 are the head and 1,024 the lines. Assumes nothing.
+-- An expression as read stands as a term does where the form is the same; the forms that only a script has are the kinds
+-- from 64 on. A line that defines a word is its expression behind a header, a line that is an expression has none. The lines
+-- stand one after another as written, neither joined nor expanded, so that a table prints as the text that it was read from.
+use Prim.Native.Nat.{ℕ, _+_, _*_}
+use mathlib.Core.List.{List, [], _∷_, _++_}
+use lib.ListN.{length}
+use Rattle.atlite.specs.Term.{plain}
+use Rattle.atlite.specs.Table.{countSrcs, countFields, countMethods, Table}
+use Rattle.atlite.specs.Script.{Src, num, null, var, plus, percent, get, set, call, send, ask, letIn, future, fn, resolve, when, seq, literal, Srcs, nil, cons, SrcFields, noField, field, SrcMethods, noMethod, method, Line, expression, define}
+use Rattle.layout.specs.Pack.{node, pad, flat}
+use Rattle.layout.specs.Terms.{variable, asked, kindNumber, fieldHeader, methodHeader}
+use Rattle.layout.specs.Layout.{encodeWord}
+
+unfoldable mutual
+  pub encodeSrc : Src → List ℕ
+  encodeSrc null = node 1 0 ∷ []
+  encodeSrc (num n) = node 2 n ∷ []
+  encodeSrc (var x) = variable x ∷ []
+  encodeSrc (plus a b) = node 7 0 ∷ (encodeSrc a ++ encodeSrc b)
+  encodeSrc (percent a b) = node 8 0 ∷ (encodeSrc a ++ encodeSrc b)
+  encodeSrc (get e f) = node 9 f ∷ encodeSrc e
+  encodeSrc (set e f d) = node 10 f ∷ (encodeSrc e ++ encodeSrc d)
+  encodeSrc (letIn x e d) = node 11 x ∷ (encodeSrc e ++ encodeSrc d)
+  encodeSrc (future x y e) = node 12 (x + 128 * y) ∷ encodeSrc e
+  encodeSrc (call e m es) = node 13 (asked (plain m) (countSrcs es)) ∷ (encodeSrc e ++ encodeSrcs es)
+  encodeSrc (send e m es) = node 14 (asked (plain m) (countSrcs es)) ∷ (encodeSrc e ++ encodeSrcs es)
+  encodeSrc (literal k fs ms) = node (kindNumber k) (countFields fs + 8 * countMethods ms) ∷ (encodeFields fs ++ encodeSrcMethods ms)
+  encodeSrc (ask e m es) = node 64 (asked (plain m) (countSrcs es)) ∷ (encodeSrc e ++ encodeSrcs es)
+  encodeSrc (fn x e) = node 65 x ∷ encodeSrc e
+  encodeSrc (resolve e d) = node 66 0 ∷ (encodeSrc e ++ encodeSrc d)
+  encodeSrc (when e x d) = node 67 x ∷ (encodeSrc e ++ encodeSrc d)
+  encodeSrc (seq a b) = node 68 0 ∷ (encodeSrc a ++ encodeSrc b)
+
+  pub encodeSrcs : Srcs → List ℕ
+  encodeSrcs nil = []
+  encodeSrcs (cons e es) = encodeSrc e ++ encodeSrcs es
+
+  pub encodeFields : SrcFields → List ℕ
+  encodeFields noField = []
+  encodeFields (field f e fs) = fieldHeader f ∷ (encodeSrc e ++ encodeFields fs)
+
+  pub encodeSrcMethods : SrcMethods → List ℕ
+  encodeSrcMethods noMethod = []
+  encodeSrcMethods (method m xs e ms) = methodHeader m xs ∷ (encodeSrc e ++ encodeSrcMethods ms)
+
+abbrev pub definitionHeader : ℕ → ℕ
+definitionHeader x = node 130 x
+
+unfoldable pub encodeLine : Line → List ℕ
+encodeLine (expression e) = encodeSrc e
+encodeLine (define x e) = definitionHeader x ∷ encodeSrc e
+
+abbrev pub tableWords : ℕ
+tableWords = 1280
+
+-- numbers of words, of lines and of the lines' words; the dictionary as in a state; the lines
+unfoldable pub encodeTable : Table → List ℕ
+encodeTable T =
+    pad 256 (length (T .words) ∷ length (T .lines) ∷ length (flat encodeLine (T .lines)) ∷ flat encodeWord (T .words))
+    ++ pad 1024 (flat encodeLine (T .lines))
+
+unfoldable pub Tables : Unit {0}
+unfolding encodeSrc encodeLine encodeTable
+Tables = tt

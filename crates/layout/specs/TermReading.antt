@@ -1,0 +1,77 @@
+-- The terms that words are. Assumes nothing; nothing here need be believed.
+use Prim.Native.Nat.{ℕ, zero, suc, _/_, _%_}
+use mathlib.Core.List.{List, [], _∷_}
+use lib.ListN.{drop, getD}
+use Rattle.atlite.specs.Term.{Series, made, copied, Value, null, num, ref, Name, plain, twoWay, resolve, register, Kind, Term, val, var, plus, percent, get, set, call, send, letIn, future, literal, Terms, nil, cons, Inits, noField, Methods, noMethod, method}
+use Rattle.layout.specs.Reading.{Item, alone, exprOf, fieldOf, methodOf, gather, first, stack}
+
+abbrev pub termsIn : ℕ → List (Item Term) → Terms
+termsIn n s = gather (exprOf cons) nil n s
+
+abbrev pub initsIn : ℕ → List (Item Term) → Inits
+initsIn n s = gather (fieldOf Inits.field) noField n s
+
+abbrev pub methodsIn : ℕ → List (Item Term) → Methods
+methodsIn n s = gather (methodOf method) noMethod n s
+
+abbrev pub seriesIn : ℕ → Series
+seriesIn zero = made
+seriesIn (suc n) = copied
+
+abbrev pub nameIn : ℕ → ℕ → Name
+nameIn zero n = plain n
+nameIn (suc zero) n = twoWay n
+nameIn (suc (suc zero)) n = resolve
+nameIn (suc (suc (suc k))) n = register
+
+abbrev pub refIn : ℕ → Value
+refIn p = ref (p / 65536 / 2) (seriesIn (p / 65536 % 2)) (p % 65536)
+
+abbrev pub none : Term
+none = val null
+
+abbrev pub askedIn : (Term → Name → Terms → Term) → ℕ → List (Item Term) → List (Item Term)
+askedIn f p s =
+    alone (f (first none s) (nameIn (p / 128 % 4) (p % 128)) (termsIn (p / 128 / 4) (drop 1 s))) ∷ drop (p / 128 / 4) (drop 1 s)
+
+abbrev pub literalIn : Kind → ℕ → List (Item Term) → List (Item Term)
+literalIn k p s = alone (literal k (initsIn (p % 8) s) (methodsIn (p / 8) (drop (p % 8) s))) ∷ drop (p / 8) (drop (p % 8) s)
+
+-- what the stack becomes, by the node's kind
+unfoldable pub termForms : ℕ → List (Item Term) → List (List (Item Term))
+termForms p s =
+    s
+    ∷ (alone (val null) ∷ s)
+    ∷ (alone (val (num p)) ∷ s)
+    ∷ (alone (val (refIn p)) ∷ s)
+    ∷ s
+    ∷ s
+    ∷ (alone (var p) ∷ s)
+    ∷ (alone (plus (first none s) (first none (drop 1 s))) ∷ drop 2 s)
+    ∷ (alone (percent (first none s) (first none (drop 1 s))) ∷ drop 2 s)
+    ∷ (alone (get (first none s) p) ∷ drop 1 s)
+    ∷ (alone (set (first none s) p (first none (drop 1 s))) ∷ drop 2 s)
+    ∷ (alone (letIn p (first none s) (first none (drop 1 s))) ∷ drop 2 s)
+    ∷ (alone (future (p % 128) (p / 128) (first none s)) ∷ drop 1 s)
+    ∷ askedIn call p s
+    ∷ askedIn send p s
+    ∷ literalIn Kind.object p s
+    ∷ literalIn Kind.isolate p s
+    ∷ literalIn Kind.actor p s
+    ∷ []
+
+unfoldable pub termForm : ℕ → ℕ → List (Item Term) → List (Item Term)
+termForm k p s = getD (termForms p s) k s
+
+abbrev pub termStack : List ℕ → List (Item Term)
+termStack w = stack none termForm w
+
+unfoldable pub termAt : List ℕ → Term
+termAt w = first none (termStack w)
+
+unfoldable pub decodeValue : ℕ → Value
+decodeValue w = getD (null ∷ null ∷ num (w % 16777216) ∷ refIn (w % 16777216) ∷ []) (w / 16777216) null
+
+unfoldable pub TermReading : Unit {0}
+unfolding termForms termForm termAt decodeValue
+TermReading = tt

@@ -1,0 +1,209 @@
+-- Reading the words of a term gives the term, if it fits. By induction on the term: its words leave it on top of what the words
+-- behind it leave. Assumes nothing.
+use Prim.Native.Nat.{ℕ, _+_, _-_, _*_, _≤_, _<_, _/_, _%_}
+use mathlib.Core.Path.{_≡_, refl, ap, ap₂, _∙_}
+use mathlib.Core.List.{List, [], _∷_, _++_}
+use native.Mathlib.Omega.{arith}
+use lib.ListN.{length, drop}
+use Rattle.atlite.specs.Term.{Series, made, copied, Value, null, num, ref, Name, plain, twoWay, resolve, register, Kind, Term, val, var, plus, percent, get, set, call, send, letIn, future, literal, Terms, nil, cons, Inits, noField, Methods, noMethod, method, countTerms}
+use Rattle.layout.specs.Pack.{zeros, pad}
+use Rattle.layout.specs.Terms.{countInits, countMethods, seriesBit, encodeValue, tagged, asked, kindNumber, fieldHeader, methodHeader, encodeTerm, encodeTerms, encodeInits, encodeMethods}
+use Rattle.layout.specs.Reading.{Item, alone, aField, aMethod, gather, first, push, stack}
+use Rattle.layout.specs.TermReading.{termsIn, initsIn, methodsIn, nameIn, refIn, none, askedIn, literalIn, termForms, termForm, termStack, termAt, decodeValue}
+use Rattle.layout.specs.PackLaws.{pack-low, pack-high, first-digit, second-digit, third-digit, NameFits}
+use Rattle.layout.specs.ReadLaws.{push-node, push-field, push-method, stack-two, stack-headed, stack-lists, stack-exprs, stack-expr, stack-zeros}
+use Rattle.layout.specs.TermLaws.{kind-small, ValueFits, NameOk, Fits, FitsAll, FitsInits, FitsMethods}
+
+-- ---- values
+ref-back : (a : ℕ) (s : Series) (n : ℕ) → ValueFits (ref a s n) → refIn (n + 65536 * (seriesBit s + 2 * a)) ≡ ref a s n
+unfolding seriesBit
+ref-back a made n h = rw (pack-low 65536 n (0 + 2 * a) (h .0), pack-high 65536 n (0 + 2 * a) (h .0), pack-low 2 0 a (omega arith), pack-high 2 0 a (omega arith))
+ref-back a copied n h = rw (pack-low 65536 n (1 + 2 * a) (h .0), pack-high 65536 n (1 + 2 * a) (h .0), pack-low 2 1 a (omega arith), pack-high 2 1 a (omega arith))
+
+pub bit : (s : Series) → seriesBit s < 2
+unfolding seriesBit
+bit made = omega arith
+bit copied = omega arith
+
+pub value-back : (v : Value) → ValueFits v → decodeValue (encodeValue v) ≡ v
+unfolding decodeValue encodeValue
+value-back null h = refl
+value-back (num n) h = rw (pack-low 16777216 n 2 h, pack-high 16777216 n 2 h)
+value-back (ref a s n) h =
+    let p = n + 65536 * (seriesBit s + 2 * a) in
+    let l : p < 16777216 = omega (arith, h, bit s) in
+    rw (pack-low 16777216 p 3 l, pack-high 16777216 p 3 l) (ref-back a s n h)
+
+-- a word 0 is never a value
+pub value-nonzero : (v : Value) → 1 ≤ encodeValue v
+unfolding encodeValue
+value-nonzero null = omega arith
+value-nonzero (num n) = omega arith
+value-nonzero (ref a s n) = omega arith
+
+push-value : (v : Value) (s : List (Item Term)) → ValueFits v → push none termForm (encodeValue v) s ≡ alone (val v) ∷ s
+unfolding encodeValue termForms termForm
+push-value null s h = push-node none termForm 1 0 s (omega arith) (omega arith)
+push-value (num n) s h = push-node none termForm 2 n s h (omega arith)
+push-value (ref a t n) s h =
+    let p = n + 65536 * (seriesBit t + 2 * a) in
+    let l : p < 16777216 = omega (arith, h, bit t) in
+    push-node none termForm 3 p s l (omega arith) ∙ ap (λ v. alone (val v) ∷ s) (ref-back a t n h)
+
+-- ---- names with a tag and a count
+pub asked-small : (m : Name) (n : ℕ) → NameOk m → n < 8 → asked m n < 4096
+unfolding tagged
+asked-small (plain m) n h l = omega (arith, h)
+asked-small (twoWay m) n h l = omega (arith, h)
+asked-small resolve n h l = omega arith
+asked-small register n h l = omega arith
+
+pub asked-name : (m : Name) (n : ℕ) → NameOk m → nameIn (asked m n / 128 % 4) (asked m n % 128) ≡ m
+unfolding tagged
+asked-name (plain m) n h = let l : m < 128 = omega (arith, h) in ap₂ nameIn (second-digit m 0 n l (omega arith)) (first-digit m 0 n l (omega arith))
+asked-name (twoWay m) n h = let l : m < 128 = omega (arith, h) in ap₂ nameIn (second-digit m 1 n l (omega arith)) (first-digit m 1 n l (omega arith))
+asked-name resolve n h = ap₂ nameIn (second-digit 0 2 n (omega arith) (omega arith)) (first-digit 0 2 n (omega arith) (omega arith))
+asked-name register n h = ap₂ nameIn (second-digit 0 3 n (omega arith) (omega arith)) (first-digit 0 3 n (omega arith) (omega arith))
+
+pub asked-count : (m : Name) (n : ℕ) → NameOk m → asked m n / 128 / 4 ≡ n
+unfolding tagged
+asked-count (plain m) n h = third-digit m 0 n (omega (arith, h)) (omega arith)
+asked-count (twoWay m) n h = third-digit m 1 n (omega (arith, h)) (omega arith)
+asked-count resolve n h = third-digit 0 2 n (omega arith) (omega arith)
+asked-count register n h = third-digit 0 3 n (omega arith) (omega arith)
+
+-- ---- what a list of terms, fields or methods leaves on the stack
+unfoldable pub termItems : Terms → List (Item Term)
+termItems nil = []
+termItems (cons e es) = alone e ∷ termItems es
+
+unfoldable pub initItems : Inits → List (Item Term)
+initItems noField = []
+initItems (Inits.field f e fs) = aField f e ∷ initItems fs
+
+unfoldable pub methodItems : Methods → List (Item Term)
+methodItems noMethod = []
+methodItems (method m xs e ms) = aMethod m xs e ∷ methodItems ms
+
+mutual
+  unfolding termItems gather countTerms
+
+  terms-in : (es : Terms) (s : List (Item Term)) → termsIn (countTerms es) (termItems es ++ s) ≡ es
+  terms-in nil s = refl
+  terms-in (cons e es) s = ap (cons e) (terms-in es s)
+
+mutual
+  unfolding termItems countTerms
+
+  terms-past : (es : Terms) (s : List (Item Term)) → drop (countTerms es) (termItems es ++ s) ≡ s
+  terms-past nil s = refl
+  terms-past (cons e es) s = terms-past es s
+
+mutual
+  unfolding initItems gather countInits
+
+  inits-in : (fs : Inits) (s : List (Item Term)) → initsIn (countInits fs) (initItems fs ++ s) ≡ fs
+  inits-in noField s = refl
+  inits-in (Inits.field f e fs) s = ap (Inits.field f e) (inits-in fs s)
+
+mutual
+  unfolding initItems countInits
+
+  inits-past : (fs : Inits) (s : List (Item Term)) → drop (countInits fs) (initItems fs ++ s) ≡ s
+  inits-past noField s = refl
+  inits-past (Inits.field f e fs) s = inits-past fs s
+
+mutual
+  unfolding methodItems gather countMethods
+
+  pub methods-in : (ms : Methods) (s : List (Item Term)) → methodsIn (countMethods ms) (methodItems ms ++ s) ≡ ms
+  methods-in noMethod s = refl
+  methods-in (method m xs e ms) s = ap (method m xs e) (methods-in ms s)
+
+mutual
+  unfolding methodItems countMethods
+
+  pub methods-past : (ms : Methods) (s : List (Item Term)) → drop (countMethods ms) (methodItems ms ++ s) ≡ s
+  methods-past noMethod s = refl
+  methods-past (method m xs e ms) s = methods-past ms s
+
+-- ---- the forms whose payload has digits
+module _ (m : Name) (es : Terms) (s : List (Item Term)) (h : NameOk m) where
+  asked-in : (f : Term → Name → Terms → Term) (e : Term) → askedIn f (asked m (countTerms es)) (alone e ∷ (termItems es ++ s)) ≡ alone (f e m es) ∷ s
+  asked-in f e = let n = countTerms es in rw (asked-name m n h, asked-count m n h, terms-in es s, terms-past es s)
+
+literal-in : (k : Kind) (fs : Inits) (ms : Methods) (s : List (Item Term)) → countInits fs < 8
+    → literalIn k (countInits fs + 8 * countMethods ms) (initItems fs ++ (methodItems ms ++ s)) ≡ alone (literal k fs ms) ∷ s
+literal-in k fs ms s h =
+    rw (
+      pack-low 8 (countInits fs) (countMethods ms) h,
+      pack-high 8 (countInits fs) (countMethods ms) h,
+      inits-in fs (methodItems ms ++ s),
+      inits-past fs (methodItems ms ++ s),
+      methods-in ms s,
+      methods-past ms s,
+    )
+
+literal-form : (k : Kind) (fs : Inits) (ms : Methods) (s : List (Item Term)) → countInits fs < 8
+    → termForm (kindNumber k) (countInits fs + 8 * countMethods ms) (initItems fs ++ (methodItems ms ++ s)) ≡ alone (literal k fs ms) ∷ s
+unfolding kindNumber termForms termForm
+literal-form Kind.object fs ms s h = literal-in Kind.object fs ms s h
+literal-form Kind.isolate fs ms s h = literal-in Kind.isolate fs ms s h
+literal-form Kind.actor fs ms s h = literal-in Kind.actor fs ms s h
+
+future-form : (x y : ℕ) (e : Term) (s : List (Item Term)) → NameFits x → termForm 12 (x + 128 * y) (alone e ∷ s) ≡ alone (future x y e) ∷ s
+unfolding termForms termForm
+future-form x y e s h = let l : x < 128 = omega (arith, h) in rw (pack-low 128 x y l, pack-high 128 x y l)
+
+-- ---- the law
+mutual
+  unfolding encodeTerm stack Fits termItems initItems methodItems termForms termForm
+
+  pub read-term : (e : Term) (r : List ℕ) → Fits e → termStack (encodeTerm e ++ r) ≡ alone e ∷ termStack r
+  read-term (val v) r h = push-value v (termStack r) h
+  read-term (var x) r h = push-node none termForm 6 x (termStack r) (omega (arith, h)) (omega arith)
+  read-term (plus a b) r h =
+      stack-exprs none termForm 7 0 (omega arith) (omega arith) (encodeTerm a) (encodeTerm b) r a b (plus a b) (read-term a (encodeTerm b ++ r) (h .0)) (read-term b r (h .1)) refl
+  read-term (percent a b) r h =
+      stack-exprs none termForm 8 0 (omega arith) (omega arith) (encodeTerm a) (encodeTerm b) r a b (percent a b) (read-term a (encodeTerm b ++ r) (h .0)) (read-term b r (h .1)) refl
+  read-term (get e f) r h = stack-expr none termForm 9 f (omega arith) (omega (arith, h .0)) (encodeTerm e) r e (get e f) (read-term e r (h .1)) refl
+  read-term (set a f b) r h =
+      stack-exprs none termForm 10 f (omega arith) (omega (arith, h .0)) (encodeTerm a) (encodeTerm b) r a b (set a f b) (read-term a (encodeTerm b ++ r) (h .1)) (read-term b r (h .2)) refl
+  read-term (letIn x a b) r h =
+      stack-exprs none termForm 11 x (omega arith) (omega (arith, h .0)) (encodeTerm a) (encodeTerm b) r a b (letIn x a b) (read-term a (encodeTerm b ++ r) (h .1)) (read-term b r (h .2)) refl
+  read-term (future x y e) r h =
+      stack-expr none termForm 12 (x + 128 * y) (omega arith) (omega (arith, h .0, h .1)) (encodeTerm e) r e (future x y e) (read-term e r (h .2)) (future-form x y e (termStack r) (h .0))
+  read-term (call e m es) r h =
+      stack-lists none termForm 13 (asked m (countTerms es)) (omega arith) (omega (arith, asked-small m (countTerms es) (h .0) (h .1))) (encodeTerm e) (encodeTerms es) r (alone e ∷ []) (termItems es) _
+      (read-term e (encodeTerms es ++ r) (h .2)) (read-terms es r (h .3)) (asked-in m es (termStack r) (h .0) call e)
+  read-term (send e m es) r h =
+      stack-lists none termForm 14 (asked m (countTerms es)) (omega arith) (omega (arith, asked-small m (countTerms es) (h .0) (h .1))) (encodeTerm e) (encodeTerms es) r (alone e ∷ []) (termItems es) _
+      (read-term e (encodeTerms es ++ r) (h .2)) (read-terms es r (h .3)) (asked-in m es (termStack r) (h .0) send e)
+  read-term (literal k fs ms) r h =
+      stack-lists none termForm (kindNumber k) (countInits fs + 8 * countMethods ms) (omega (arith, kind-small k)) (omega (arith, h .0, h .1)) (encodeInits fs) (encodeMethods ms) r (initItems fs) (methodItems ms) _
+      (read-inits fs (encodeMethods ms ++ r) (h .2)) (read-methods ms r (h .3)) (literal-form k fs ms (termStack r) (h .0))
+
+  pub read-terms : (es : Terms) (r : List ℕ) → FitsAll es → termStack (encodeTerms es ++ r) ≡ termItems es ++ termStack r
+  read-terms nil r h = refl
+  read-terms (cons e es) r h = stack-two none termForm (encodeTerm e) (encodeTerms es) r _ _ (read-term e (encodeTerms es ++ r) (h .0)) (ap (λ s. alone e ∷ s) (read-terms es r (h .1)))
+
+  pub read-inits : (fs : Inits) (r : List ℕ) → FitsInits fs → termStack (encodeInits fs ++ r) ≡ initItems fs ++ termStack r
+  read-inits noField r h = refl
+  read-inits (Inits.field f e fs) r h =
+      stack-headed none termForm (fieldHeader f) (encodeTerm e) (encodeInits fs) r (aField f e) e (initItems fs) (λ s. push-field none termForm f (alone e ∷ s) (h .0))
+      (read-term e (encodeInits fs ++ r) (h .1)) (read-inits fs r (h .2))
+
+  pub read-methods : (ms : Methods) (r : List ℕ) → FitsMethods ms → termStack (encodeMethods ms ++ r) ≡ methodItems ms ++ termStack r
+  read-methods noMethod r h = refl
+  read-methods (method m xs e ms) r h =
+      stack-headed none termForm (methodHeader m xs) (encodeTerm e) (encodeMethods ms) r (aMethod m xs e) e (methodItems ms) (λ s. push-method none termForm m xs (alone e ∷ s) (h .0) (h .1) (h .2))
+      (read-term e (encodeMethods ms ++ r) (h .3)) (read-methods ms r (h .4))
+
+-- zeros are read as nothing
+pub read-zeros : (n : ℕ) → termStack (zeros n) ≡ []
+unfolding termForms termForm
+read-zeros n = stack-zeros none termForm refl n
+
+pub term-back : (n : ℕ) (e : Term) → Fits e → termAt (pad n (encodeTerm e)) ≡ e
+unfolding termAt pad
+term-back n e h = ap (first none) (read-term e (zeros (n - length (encodeTerm e))) h)
