@@ -33,3 +33,4 @@ pub mod Examples
 -- laws, which need not be believed
 pub mod Facts
 pub mod Laws
+pub mod Others

@@ -4,4 +4,3 @@ pub mod Lists
 pub mod Follow
 pub mod Stable
 pub mod Instance
-pub mod Others

@@ -1,6 +1,5 @@
 -- What the six calls do to the lists they are lent: a call is refused and leaves its list, or it answers and has written what its
--- outcome says; either way the list keeps its length. Assumes what the modules below are given and nothing else: that the reader
--- takes just the tables that print as the text, and that loading, a move and a run leave a state.
+-- outcome says; either way the list keeps its length. Assumes nothing.
 use Prim.Native.Nat.{ℕ, _≤_, _<_}
 use mathlib.Core.Path.{_≡_, refl, sym, ap, _∙_, subst as transp}
 use mathlib.Core.List.{List, _++_}
