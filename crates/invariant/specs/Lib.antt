@@ -1,8 +1,11 @@
 pub mod Terms
 pub mod Forms
+pub mod Entries
 pub mod Own
 pub mod Passed
 pub mod Effects
+pub mod Growing
+pub mod Arrivals
 pub mod States
 pub mod TermTests
 pub mod Tests
