@@ -33,5 +33,15 @@ pub mod MeaningLaws
 -- which words a change touches
 pub mod Writes
 pub mod Places
+-- terms read forward from a position
+pub mod Parse
+pub mod ParseWords
+pub mod ParseHeads
+pub mod Spans
+pub mod ParseComplete
+pub mod ParseSound
+pub mod ParseLaws
+pub mod ParseMessages
+pub mod Arity
 -- computed examples
 pub mod Shown

@@ -15,7 +15,7 @@ use Rattle.layout.specs.ReadLaws.{push-node, push-field, push-method, st
 use Rattle.layout.specs.TermLaws.{kind-small, ValueFits, NameOk, Fits, FitsAll, FitsInits, FitsMethods}
 
 -- ---- values
-ref-back : (a : ℕ) (s : Series) (n : ℕ) → ValueFits (ref a s n) → refIn (n + 65536 * (seriesBit s + 2 * a)) ≡ ref a s n
+pub ref-back : (a : ℕ) (s : Series) (n : ℕ) → ValueFits (ref a s n) → refIn (n + 65536 * (seriesBit s + 2 * a)) ≡ ref a s n
 unfolding seriesBit
 ref-back a made n h = rw (pack-low 65536 n (0 + 2 * a) (h .0), pack-high 65536 n (0 + 2 * a) (h .0), pack-low 2 0 a (omega arith), pack-high 2 0 a (omega arith))
 ref-back a copied n h = rw (pack-low 65536 n (1 + 2 * a) (h .0), pack-high 65536 n (1 + 2 * a) (h .0), pack-low 2 1 a (omega arith), pack-high 2 1 a (omega arith))

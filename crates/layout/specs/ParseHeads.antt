@@ -1,0 +1,184 @@
+-- The head that a word is, exactly. `Reads` says of a head what a term made with it must be: fitting, where its parts are, and laid
+-- out as this word and then the parts; every word's head is such a head, and every term's first word has the head of that term.
+-- By the table of kinds, one row each. Assumes nothing.
+use Prim.Native.Nat.{ℕ, _+_, _*_, _≤_, _<_, _/_, _%_}
+use mathlib.Core.Path.{_≡_, refl, sym, ap, _∙_}
+use mathlib.Core.Bool.{Bool, true, false}
+use mathlib.Core.List.{List, [], _∷_, _++_}
+use mathlib.Core.Option.{Option, none, some}
+use native.Mathlib.Nat.{mod-add-div}
+use native.Mathlib.Omega.{arith}
+use borrow.Author.Tests.{ltb-true, eqb-true, lt-ltb}
+use lib.Dec.{eqb, ltb}
+use lib.ListN.{List·getD-eq-default}
+use Rattle.atlite.specs.Term.{Value, null, num, ref, Name, Kind, Term, val, var, plus, percent, get, set, call, send, letIn, future, literal, Terms, Inits, Methods, countTerms}
+use Rattle.layout.specs.Pack.{node}
+use Rattle.layout.specs.Terms.{countInits, countMethods, seriesBit, encodeValue, tagged, asked, kindNumber, encodeTerm, encodeTerms, encodeInits, encodeMethods}
+use Rattle.layout.specs.PackLaws.{pack-low, pack-high, NameFits}
+use Rattle.layout.specs.TermLaws.{ValueFits, NameOk, Fits, FitsAll, FitsInits, FitsMethods}
+use Rattle.layout.specs.TermReads.{bit, ref-back, asked-small, asked-count}
+use Rattle.layout.specs.Parse.{valueIn, nameOf, Head, noHead, leaf, unary, binary, asks, parts, only, valueHead, askHead, askIn, literalHead, heads, headIn, headAt}
+use Rattle.layout.specs.ParseWords.{Along, along-getD, Holding, word-node, payload-small, of-node, ValueWord, value-in, NameWord, name-word, name-read}
+
+-- ---- every word's head makes terms that begin with the word
+-- a term that fits, with these words
+abbrev pub Is : Term → List ℕ → Type 0
+Is e xs = Fits e × (encodeTerm e ≡ xs)
+
+abbrev pub Reads : ℕ → Head → Type 0
+Reads x noHead = Unit {0}
+Reads x (leaf e) = Is e (x ∷ [])
+Reads x (unary f) = (e : Term) → Fits e → Is (f e) (x ∷ encodeTerm e)
+Reads x (binary f) = (e d : Term) → Fits e → Fits d → Is (f e d) (x ∷ (encodeTerm e ++ encodeTerm d))
+Reads x (asks f n) = (e : Term) (es : Terms) → Fits e → FitsAll es → countTerms es ≡ n → Is (f e es) (x ∷ (encodeTerm e ++ encodeTerms es))
+Reads x (parts k n m) = (fs : Inits) (ms : Methods) → FitsInits fs → FitsMethods ms → countInits fs ≡ n → countMethods ms ≡ m → Is (literal k fs ms) (x ∷ (encodeInits fs ++ encodeMethods ms))
+
+reads-only : (x : ℕ) (b : Bool) (h : Head) → (b ≡ true → Reads x h) → Reads x (only b h)
+reads-only x true h r = r refl
+reads-only x false h r = tt
+
+reads-lt : (x m n : ℕ) (h : Head) → (m < n → Reads x h) → Reads x (only (ltb m n) h)
+reads-lt x m n h r = reads-only x (ltb m n) h (λ t. r (ltb-true m n t))
+
+reads-eq : (x m n : ℕ) (h : Head) → (m ≡ n → Reads x h) → Reads x (only (eqb m n) h)
+reads-eq x m n h r = reads-only x (eqb m n) h (λ t. r (eqb-true m n t))
+
+-- a value alone
+reads-value : (x : ℕ) (o : Option Value) → Holding (ValueWord x) o → Reads x (valueHead o)
+unfolding Fits encodeTerm
+reads-value x none h = tt
+reads-value x (some v) h = (h .0, ap (λ y. y ∷ []) (h .1))
+
+-- a call or a send, by what its payload comes to
+pub asked-sum : (p t : ℕ) → t ≡ p % 128 + 128 * (p / 128 % 4) → t + 512 * (p / 128 / 4) ≡ p
+asked-sum p t e = omega arith
+
+module _ (k : ℕ) (f : Term → Name → Terms → Term) where
+  -- that the constructor is laid out under this kind
+  abbrev Asking : Type 0
+  Asking = (e : Term) (m : Name) (es : Terms) → NameOk m → countTerms es < 8 → Fits e → FitsAll es → Is (f e m es) (node k (asked m (countTerms es)) ∷ (encodeTerm e ++ encodeTerms es))
+
+  reads-name : Asking → (p : ℕ) (o : Option Name) → p / 128 / 4 < 8 → Holding (NameWord (p / 128 % 4) (p % 128)) o → Reads (node k p) (askHead f (p / 128 / 4) o)
+  reads-name g p none l h = tt
+  reads-name g p (some m) l h = λ e es i j c.
+      let q : asked m (countTerms es) ≡ p = ap (λ n. tagged m + 512 * n) c ∙ asked-sum p (tagged m) (h .1) in
+      let r = g e m es (h .0) (omega arith) i j in
+      (r .0, r .1 ∙ ap (λ n. node k n ∷ (encodeTerm e ++ encodeTerms es)) q)
+
+  reads-ask : Asking → (p : ℕ) → Reads (node k p) (askIn f p)
+  reads-ask g p = reads-lt (node k p) (p / 128 / 4) 8 _ (λ l. reads-name g p (nameOf (p / 128 % 4) (p % 128)) l (name-word (p / 128 % 4) (p % 128)))
+
+reads-literal : (k : Kind) (p : ℕ) → Reads (node (kindNumber k) p) (literalHead k p)
+unfolding Fits encodeTerm
+reads-literal k p = reads-lt _ (p / 8) 8 (parts k (p % 8) (p / 8)) (λ l fs ms i j c d.
+    let q : countInits fs + 8 * countMethods ms ≡ p = omega arith in
+    ((omega arith, omega arith, i, j), ap (λ n. node (kindNumber k) n ∷ (encodeInits fs ++ encodeMethods ms)) q))
+
+-- ---- the table
+pub row : {A B : Type 0} → A → B → A × B
+row h r = (h, r)
+
+rows : (p : ℕ) → p < 16777216 → Along (λ k. Reads (node k p)) (heads p)
+unfolding heads Fits encodeTerm kindNumber
+rows p h =
+    row tt
+    (row (reads-value (node 1 p) (valueIn 1 p) (value-in 1 p h))
+    (row (reads-value (node 2 p) (valueIn 2 p) (value-in 2 p h))
+    (row (reads-value (node 3 p) (valueIn 3 p) (value-in 3 p h))
+    (row tt
+    (row tt
+    (row (reads-lt (node 6 p) p 127 (leaf (var p)) (λ l. (l, refl)))
+    (row (reads-eq (node 7 p) p 0 (binary plus) (λ z e d i j. ((i, j), ap (λ n. node 7 n ∷ (encodeTerm e ++ encodeTerm d)) (sym z))))
+    (row (reads-eq (node 8 p) p 0 (binary percent) (λ z e d i j. ((i, j), ap (λ n. node 8 n ∷ (encodeTerm e ++ encodeTerm d)) (sym z))))
+    (row (reads-lt (node 9 p) p 127 (unary (λ e. get e p)) (λ l e i. ((l, i), refl)))
+    (row (reads-lt (node 10 p) p 127 (binary (λ e d. set e p d)) (λ l e d i j. ((l, i, j), refl)))
+    (row (reads-lt (node 11 p) p 127 (binary (λ e d. letIn p e d)) (λ l e d i j. ((l, i, j), refl)))
+    (row (reads-lt (node 12 p) (p % 128) 127 _ (λ l. reads-lt (node 12 p) (p / 128) 127 (unary (λ e. future (p % 128) (p / 128) e)) (λ b e i. ((l, b, i), ap (λ n. node 12 n ∷ encodeTerm e) (mod-add-div p 128)))))
+    (row (reads-ask 13 call (λ e m es a b c d. ((a, b, c, d), refl)) p)
+    (row (reads-ask 14 send (λ e m es a b c d. ((a, b, c, d), refl)) p)
+    (row (reads-literal Kind.object p)
+    (row (reads-literal Kind.isolate p)
+    (row (reads-literal Kind.actor p) tt)))))))))))))))))
+
+pub head-reads : (x : ℕ) → Reads x (headAt x)
+unfolding headAt headIn
+head-reads x =
+    rw (word-node x) at (along-getD (λ k. Reads (node k (x % 16777216))) noHead (λ k. tt) (heads (x % 16777216)) (rows (x % 16777216) (payload-small x)) (x / 16777216))
+
+-- a kind that was found, and the kinds past the table
+pub head-kind : (x k : ℕ) → x / 16777216 ≡ k → headAt x ≡ headIn k (x % 16777216)
+unfolding headAt
+head-kind x k e = ap (λ i. headIn i (x % 16777216)) e
+
+pub head-none : (x : ℕ) → 18 ≤ x / 16777216 → headAt x ≡ noHead
+unfolding headAt headIn heads
+head-none x h = List·getD-eq-default (heads (x % 16777216)) noHead h
+
+-- ---- and every term's first word has its head
+pub head-value : (v : Value) → ValueFits v → headAt (encodeValue v) ≡ leaf (val v)
+unfolding headAt headIn heads valueIn encodeValue
+head-value null h = refl
+head-value (num n) h = of-node headIn 2 n h
+head-value (ref a s n) h =
+    let p = n + 65536 * (seriesBit s + 2 * a) in
+    let l : p < 16777216 = omega (arith, h, bit s) in
+    of-node headIn 3 p l ∙ ap (λ v. leaf (val v)) (ref-back a s n h)
+
+module _ (x : ℕ) (h : NameFits x) where
+  -- a name is a payload
+  small : x < 16777216
+  small = omega (arith, h)
+
+  pub head-var : headAt (node 6 x) ≡ leaf (var x)
+  unfolding headAt headIn heads
+  head-var = of-node headIn 6 x small ∙ rw (lt-ltb x 127 h)
+
+  pub head-get : headAt (node 9 x) ≡ unary (λ e. get e x)
+  unfolding headAt headIn heads
+  head-get = of-node headIn 9 x small ∙ rw (lt-ltb x 127 h)
+
+  pub head-set : headAt (node 10 x) ≡ binary (λ e d. set e x d)
+  unfolding headAt headIn heads
+  head-set = of-node headIn 10 x small ∙ rw (lt-ltb x 127 h)
+
+  pub head-let : headAt (node 11 x) ≡ binary (λ e d. letIn x e d)
+  unfolding headAt headIn heads
+  head-let = of-node headIn 11 x small ∙ rw (lt-ltb x 127 h)
+
+  pub head-future : (y : ℕ) → NameFits y → headAt (node 12 (x + 128 * y)) ≡ unary (λ e. future x y e)
+  unfolding headAt headIn heads
+  head-future y g =
+      let l : x < 128 = omega (arith, h) in
+      of-node headIn 12 (x + 128 * y) (omega (arith, h, g)) ∙ rw (pack-low 128 x y l, pack-high 128 x y l, lt-ltb x 127 h, lt-ltb y 127 g)
+
+pub head-plus : headAt (node 7 0) ≡ binary plus
+unfolding headAt headIn heads
+head-plus = refl
+
+pub head-percent : headAt (node 8 0) ≡ binary percent
+unfolding headAt headIn heads
+head-percent = refl
+
+module _ (m : Name) (n : ℕ) (h : NameOk m) (l : n < 8) where
+  ask-in : (f : Term → Name → Terms → Term) → askIn f (asked m n) ≡ asks (λ e es. f e m es) n
+  ask-in f = rw (asked-count m n h, name-read m n h, lt-ltb n 8 l)
+
+  pub head-call : headAt (node 13 (asked m n)) ≡ asks (λ e es. call e m es) n
+  unfolding headAt headIn heads
+  head-call = of-node headIn 13 (asked m n) (omega (arith, asked-small m n h l)) ∙ ask-in call
+
+  pub head-send : headAt (node 14 (asked m n)) ≡ asks (λ e es. send e m es) n
+  unfolding headAt headIn heads
+  head-send = of-node headIn 14 (asked m n) (omega (arith, asked-small m n h l)) ∙ ask-in send
+
+pub head-literal : (k : Kind) (n m : ℕ) → n < 8 → m < 8 → headAt (node (kindNumber k) (n + 8 * m)) ≡ parts k n m
+unfolding headAt headIn heads kindNumber
+head-literal k n m i j = of-node headIn (kindNumber k) (n + 8 * m) (omega arith) ∙ go k
+  where
+    literal-in : (k : Kind) → literalHead k (n + 8 * m) ≡ parts k n m
+    literal-in k = rw (pack-low 8 n m i, pack-high 8 n m i, lt-ltb m 8 j)
+
+    go : (k : Kind) → headIn (kindNumber k) (n + 8 * m) ≡ parts k n m
+    go Kind.object = literal-in Kind.object
+    go Kind.isolate = literal-in Kind.isolate
+    go Kind.actor = literal-in Kind.actor

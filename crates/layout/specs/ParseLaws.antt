@@ -1,0 +1,129 @@
+-- The reader of positions is exact: with fuel for the words that are left, a term is got at a position, with an end, just where it
+-- fits and its words stand from the one to the other. From its two halves (`ParseComplete`, `ParseSound`); hence how much fuel there
+-- is does not matter, and the other way of reading (`termAt`) agrees. Assumes nothing.
+use Prim.Native.Nat.{ℕ, suc, _+_, _-_, _≤_, _<_}
+use mathlib.Core.Path.{_≡_, refl, sym, ap, _∙_}
+use mathlib.Core.List.{List, _++_}
+use native.Mathlib.Omega.{arith}
+use mathlib.Core.Logic.{_↔_}
+use lib.ListN.{length, drop, getD}
+use Rattle.atlite.specs.Term.{null, Term, Terms, Inits, Methods, countTerms, val, var, plus, percent, get, set, call, send, letIn, future, literal}
+use Rattle.layout.specs.Pack.{zeros, pad}
+use Rattle.layout.specs.PackLaws.{pad-front}
+use Rattle.layout.specs.Terms.{countInits, countMethods, encodeTerm, encodeTerms, encodeInits, encodeMethods}
+use Rattle.layout.specs.TermReading.{termAt}
+use Rattle.layout.specs.Reading.{first}
+use Rattle.layout.specs.TermReads.{read-term}
+use Rattle.layout.specs.TermLaws.{Fits}
+use Rattle.layout.specs.Parse.{Got, none, got, headAt, formed, parseTerm, parseTerms, parseInits, parseMethods}
+use Rattle.layout.specs.Spans.{Spans, span-of, span-inside, span-short}
+use Rattle.layout.specs.ParseComplete.{Meets, term-complete, terms-complete, inits-complete, methods-complete}
+use Rattle.layout.specs.ParseSound.{TermAt, TermsAt, InitsAt, MethodsAt, term-sound, terms-sound, inits-sound, methods-sound}
+
+-- where all of w from `at` on may be read
+abbrev pub Enough : ℕ → List ℕ → ℕ → Type 0
+Enough n w at = length w ≤ at + n
+
+meets-span : {A : Type 0} (p : ℕ → ℕ → Got A) (w xs : List ℕ) (a : A) → Meets p w xs a → (n at i : ℕ) → Enough n w at → Spans w at i xs → p n at ≡ got a i
+meets-span p w xs a h n at i l s = h n at (drop i w) (span-short w at i n xs s l) (s .0) ∙ ap (got a) (sym (s .1))
+
+-- ---- exactly
+module _ (n : ℕ) (w : List ℕ) (at : ℕ) (l : Enough n w at) where
+  pub term-iff : (e : Term) (i : ℕ) → (parseTerm n w at ≡ got e i) ↔ TermAt w at e i
+  term-iff e i = (term-sound n w at e i, λ h. meets-span (λ n at. parseTerm n w at) w (encodeTerm e) e (term-complete e w (h .0)) n at i l (h .1))
+
+  pub terms-iff : (c : ℕ) (es : Terms) (i : ℕ) → (parseTerms n w c at ≡ got es i) ↔ TermsAt w c at es i
+  terms-iff c es i = (
+    terms-sound n w c at es i,
+    λ h. ap (λ k. parseTerms n w k at) (sym (h .1)) ∙ meets-span (λ n at. parseTerms n w (countTerms es) at) w (encodeTerms es) es (terms-complete es w (h .0)) n at i l (h .2),
+  )
+
+  pub inits-iff : (c : ℕ) (fs : Inits) (i : ℕ) → (parseInits n w c at ≡ got fs i) ↔ InitsAt w c at fs i
+  inits-iff c fs i = (
+    inits-sound n w c at fs i,
+    λ h. ap (λ k. parseInits n w k at) (sym (h .1)) ∙ meets-span (λ n at. parseInits n w (countInits fs) at) w (encodeInits fs) fs (inits-complete fs w (h .0)) n at i l (h .2),
+  )
+
+  pub methods-iff : (c : ℕ) (ms : Methods) (i : ℕ) → (parseMethods n w c at ≡ got ms i) ↔ MethodsAt w c at ms i
+  methods-iff c ms i = (
+    methods-sound n w c at ms i,
+    λ h. ap (λ k. parseMethods n w k at) (sym (h .1)) ∙ meets-span (λ n at. parseMethods n w (countMethods ms) at) w (encodeMethods ms) ms (methods-complete ms w (h .0)) n at i l (h .2),
+  )
+
+-- ---- the fuel does not matter
+-- two answers of which the same is said
+one-answer : {A : Type 0} (Q : A → ℕ → Type 0) (g h : Got A) → ((a : A) (i : ℕ) → (g ≡ got a i) ↔ Q a i) → ((a : A) (i : ℕ) → (h ≡ got a i) ↔ Q a i) → g ≡ h
+one-answer Q none none p q = refl
+one-answer Q none (got a i) p q = p a i .1 (q a i .0 refl)
+one-answer Q (got a i) h p q = sym (q a i .1 (p a i .0 refl))
+
+module _ (n m : ℕ) (w : List ℕ) (at : ℕ) (l : Enough n w at) (k : Enough m w at) where
+  pub term-fuel : parseTerm n w at ≡ parseTerm m w at
+  term-fuel = one-answer (TermAt w at) (parseTerm n w at) (parseTerm m w at) (term-iff n w at l) (term-iff m w at k)
+
+  pub terms-fuel : (c : ℕ) → parseTerms n w c at ≡ parseTerms m w c at
+  terms-fuel c = one-answer (TermsAt w c at) (parseTerms n w c at) (parseTerms m w c at) (terms-iff n w at l c) (terms-iff m w at k c)
+
+  pub inits-fuel : (c : ℕ) → parseInits n w c at ≡ parseInits m w c at
+  inits-fuel c = one-answer (InitsAt w c at) (parseInits n w c at) (parseInits m w c at) (inits-iff n w at l c) (inits-iff m w at k c)
+
+  pub methods-fuel : (c : ℕ) → parseMethods n w c at ≡ parseMethods m w c at
+  methods-fuel c = one-answer (MethodsAt w c at) (parseMethods n w c at) (parseMethods m w c at) (methods-iff n w at l c) (methods-iff m w at k c)
+
+-- ---- no fuel at all
+-- As many words as there are is fuel enough at every position, and then one step takes none: what contracts of code may speak of.
+abbrev pub parse : List ℕ → ℕ → Got Term
+parse w at = parseTerm (length w) w at
+
+pub enough : (w : List ℕ) (at : ℕ) → Enough (length w) w at
+enough w at = omega arith
+
+pub parse-fuel : (n : ℕ) (w : List ℕ) (at : ℕ) → Enough n w at → parseTerm n w at ≡ parse w at
+parse-fuel n w at l = term-fuel n (length w) w at l (enough w at)
+
+pub parse-step : (w : List ℕ) (at : ℕ) → parse w at ≡ formed (headAt (getD w at 0)) (λ i. parse w i) w (at + 1)
+unfolding parseTerm
+parse-step w at = term-fuel (length w) (suc (length w)) w at (enough w at) (omega arith)
+
+pub parse-iff : (w : List ℕ) (at : ℕ) (e : Term) (i : ℕ) → (parse w at ≡ got e i) ↔ TermAt w at e i
+parse-iff w at = term-iff (length w) w at (enough w at)
+
+-- at a position stands one term at most
+pub term-unique : (w : List ℕ) (at : ℕ) (e : Term) (i : ℕ) (d : Term) (j : ℕ) → TermAt w at e i → TermAt w at d j → (e ≡ d) × (i ≡ j)
+term-unique w at e i d j h k =
+    let p = parse-iff w at e i .1 h in
+    let q = parse-iff w at d j .1 k in
+    (cc (p, q), cc (p, q))
+
+-- ---- where a term is got
+pub term-words : (e : Term) → 1 ≤ length (encodeTerm e)
+unfolding encodeTerm
+term-words (val v) = omega arith
+term-words (var x) = omega arith
+term-words (plus a b) = omega arith
+term-words (percent a b) = omega arith
+term-words (get e f) = omega arith
+term-words (set e f d) = omega arith
+term-words (call e m es) = omega arith
+term-words (send e m es) = omega arith
+term-words (letIn x e d) = omega arith
+term-words (future x y e) = omega arith
+term-words (literal k fs ms) = omega arith
+
+module _ (n : ℕ) (w : List ℕ) (at : ℕ) (e : Term) (i : ℕ) (h : parseTerm n w at ≡ got e i) where
+  pub term-inside : (drop at w ≡ encodeTerm e ++ drop i w) × Fits e × (at < i) × (i ≤ length w)
+  term-inside =
+      let s = term-sound n w at e i h in
+      let b = span-inside w at i (encodeTerm e) (s .1) (term-words e) in
+      (s .1 .0, s .0, b .0, b .1)
+
+  -- the reading from the back
+  pub term-same : termAt (drop at w) ≡ e
+  unfolding termAt
+  term-same = let s = term-sound n w at e i h in ap termAt (s .1 .0) ∙ ap (first (val null)) (read-term e (drop i w) (s .0))
+
+-- ---- in a region
+pub term-region : (n k : ℕ) (w : List ℕ) (at : ℕ) (e : Term) (r : List ℕ) → Fits e → Enough n w at → drop at w ≡ pad k (encodeTerm e) ++ r → parseTerm n w at ≡ got e (at + length (encodeTerm e))
+term-region n k w at e r h l d =
+    let f : drop at w ≡ encodeTerm e ++ (zeros (k - length (encodeTerm e)) ++ r) = d ∙ pad-front k (encodeTerm e) r in
+    term-iff n w at l e (at + length (encodeTerm e)) .1 (h, span-of w at (encodeTerm e) (zeros (k - length (encodeTerm e)) ++ r) f)

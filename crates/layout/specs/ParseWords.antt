@@ -1,0 +1,223 @@
+-- One word read alone, exactly: what is read of it fits and has just this word, and what fits is read of its word. A table of
+-- choices is gone through once (`along-getD`), each choice under its test. Assumes nothing.
+use Prim.Native.Nat.{ℕ, zero, suc, _+_, _*_, _≤_, _<_, _/_, _%_}
+use mathlib.Core.Path.{_≡_, refl, sym, ap, _∙_}
+use mathlib.Core.Bool.{Bool, true, false}
+use mathlib.Core.List.{List, [], _∷_}
+use mathlib.Core.Logic.{_↔_}
+use mathlib.Core.Option.{Option, none, some}
+use native.Mathlib.Nat.{mod-add-div, div-div-eq-div-mul}
+use native.Mathlib.Omega.{arith}
+use borrow.Author.Tests.{ltb-true, eqb-true, lt-ltb}
+use lib.Dec.{eqb, ltb}
+use lib.ListN.{length, getD}
+use Rattle.atlite.specs.Term.{Value, null, num, ref, Name, plain, twoWay, resolve, register}
+use Rattle.layout.specs.Pack.{node, places}
+use Rattle.layout.specs.Terms.{seriesBit, encodeValue, tagged, asked, fieldHeader, methodHeader}
+use Rattle.layout.specs.TermReading.{seriesIn, refIn}
+use Rattle.layout.specs.PackLaws.{pack-low, pack-high, first-digit, second-digit, NameFits, Each, places-small}
+use Rattle.layout.specs.TermLaws.{ValueFits, NameOk}
+use Rattle.layout.specs.TermReads.{ref-back, bit}
+use Rattle.layout.specs.Parse.{given, valueForms, nameForms, placeForms, valueIn, valueAt, nameOf, fieldAt, placesIn, paramsAt, named, methodAt}
+
+-- ---- choices and tests
+-- each element of a list at its place
+abbrev pub Along : {A : Type 0} → (ℕ → A → Type 0) → List A → Type 0
+Along P [] = Unit {0}
+Along P (a ∷ l) = P 0 a × Along (λ k. P (suc k)) l
+
+pub along-getD : {A : Type 0} (P : ℕ → A → Type 0) (d : A) → ((k : ℕ) → P k d) → (l : List A) → Along P l → (k : ℕ) → P k (getD l k d)
+along-getD P d z [] h k = z k
+along-getD P d z (a ∷ l) h zero = h .0
+along-getD P d z (a ∷ l) h (suc k) = along-getD (λ i. P (suc i)) d (λ i. z (suc i)) l (h .1) k
+
+-- of what there is, if there is anything
+abbrev pub Holding : {A : Type 0} → (A → Type 0) → Option A → Type 0
+Holding P none = Unit {0}
+Holding P (some a) = P a
+
+pub holding : {A : Type 0} (P : A → Type 0) (o : Option A) (a : A) → Holding P o → o ≡ some a → P a
+holding P o a h e = rw e at h
+
+-- a test that the rest stands under
+pub under : {A : Type 0} (P : A → Type 0) (b : Bool) (o : Option A) → (b ≡ true → Holding P o) → Holding P (given b o)
+under P true o h = h refl
+under P false o h = tt
+
+under-lt : {A : Type 0} (P : A → Type 0) (m n : ℕ) (o : Option A) → (m < n → Holding P o) → Holding P (given (ltb m n) o)
+under-lt P m n o h = under P (ltb m n) o (λ t. h (ltb-true m n t))
+
+under-eq : {A : Type 0} (P : A → Type 0) (m n : ℕ) (o : Option A) → (m ≡ n → Holding P o) → Holding P (given (eqb m n) o)
+under-eq P m n o h = under P (eqb m n) o (λ t. h (eqb-true m n t))
+
+-- ---- kind and payload
+pub word-node : (x : ℕ) → node (x / 16777216) (x % 16777216) ≡ x
+word-node x = omega arith
+
+pub payload-small : (x : ℕ) → x % 16777216 < 16777216
+payload-small x = omega arith
+
+pub of-node : {A : Type 0} (f : ℕ → ℕ → A) (k p : ℕ) → p < 16777216 → f (node k p / 16777216) (node k p % 16777216) ≡ f k p
+of-node f k p h = rw (pack-low 16777216 p k h, pack-high 16777216 p k h)
+
+-- ---- values
+abbrev pub ValueWord : ℕ → Value → Type 0
+ValueWord x v = ValueFits v × (encodeValue v ≡ x)
+
+ref-word : (p : ℕ) → p < 16777216 → ValueWord (node 3 p) (refIn p)
+unfolding encodeValue seriesBit
+ref-word p h = ((omega arith, omega arith), go (p / 65536 % 2) refl)
+  where
+    go : (b : ℕ) → p / 65536 % 2 ≡ b → p % 65536 + 65536 * (seriesBit (seriesIn b) + 2 * (p / 65536 / 2)) + 16777216 * 3 ≡ p + 16777216 * 3
+    go zero e = omega arith
+    go (suc zero) e = omega arith
+    go (suc (suc b)) e = absurd (omega arith)
+
+pub value-in : (k p : ℕ) → p < 16777216 → Holding (ValueWord (node k p)) (valueIn k p)
+unfolding valueIn encodeValue
+value-in k p h =
+    along-getD (λ k. Holding (ValueWord (node k p))) none (λ k. tt) (valueForms p)
+    (tt, (under-eq (ValueWord (node 1 p)) p 0 (some null) (λ e. (tt, omega arith)), ((h, refl), (ref-word p h, tt)))) k
+
+pub value-word : (x : ℕ) → Holding (ValueWord x) (valueAt x)
+unfolding valueAt
+value-word x = rw (word-node x) at (value-in (x / 16777216) (x % 16777216) (payload-small x))
+
+pub value-sound : (x : ℕ) (v : Value) → valueAt x ≡ some v → ValueFits v × (encodeValue v ≡ x)
+value-sound x v e = holding (ValueWord x) (valueAt x) v (value-word x) e
+
+pub value-read : (v : Value) → ValueFits v → valueAt (encodeValue v) ≡ some v
+unfolding valueAt valueIn encodeValue
+value-read null h = refl
+value-read (num n) h = of-node valueIn 2 n h
+value-read (ref a s n) h =
+    let p = n + 65536 * (seriesBit s + 2 * a) in
+    let l : p < 16777216 = omega (arith, h, bit s) in
+    of-node valueIn 3 p l ∙ ap some (ref-back a s n h)
+
+pub value-iff : (x : ℕ) (v : Value) → (valueAt x ≡ some v) ↔ (ValueFits v × (encodeValue v ≡ x))
+value-iff x v = (value-sound x v, λ h. ap valueAt (sym (h .1)) ∙ value-read v (h .0))
+
+-- ---- a message's name and its count
+abbrev pub NameWord : ℕ → ℕ → Name → Type 0
+NameWord t x m = NameOk m × (tagged m ≡ x + 128 * t)
+
+pub name-word : (t x : ℕ) → Holding (NameWord t x) (nameOf t x)
+unfolding nameOf tagged
+name-word t x =
+    along-getD (λ t. Holding (NameWord t x)) none (λ k. tt) (nameForms x) (
+      under-lt (NameWord 0 x) x 127 (some (plain x)) (λ l. (l, refl)),
+      (
+        under-lt (NameWord 1 x) x 127 (some (twoWay x)) (λ l. (l, refl)),
+        (
+          under-eq (NameWord 2 x) x 0 (some resolve) (λ e. (tt, omega arith)),
+          (under-eq (NameWord 3 x) x 0 (some register) (λ e. (tt, omega arith)), tt),
+        ),
+      ),
+    )
+    t
+
+pub name-read : (m : Name) (n : ℕ) → NameOk m → nameOf (asked m n / 128 % 4) (asked m n % 128) ≡ some m
+unfolding nameOf tagged
+name-read (plain m) n h = let l : m < 128 = omega (arith, h) in rw (second-digit m 0 n l (omega arith), first-digit m 0 n l (omega arith), lt-ltb m 127 h)
+name-read (twoWay m) n h = let l : m < 128 = omega (arith, h) in rw (second-digit m 1 n l (omega arith), first-digit m 1 n l (omega arith), lt-ltb m 127 h)
+name-read resolve n h = rw (second-digit 0 2 n (omega arith) (omega arith), first-digit 0 2 n (omega arith) (omega arith))
+name-read register n h = rw (second-digit 0 3 n (omega arith) (omega arith), first-digit 0 3 n (omega arith) (omega arith))
+
+-- ---- headers
+pub field-word : (x : ℕ) → Holding (λ f. NameFits f × (fieldHeader f ≡ x)) (fieldAt x)
+unfolding fieldAt
+field-word x = under-eq _ (x / 16777216) 128 _ (λ e. under-lt _ (x % 16777216) 127 (some (x % 16777216)) (λ l. (l, omega arith)))
+
+pub field-read : (f : ℕ) → NameFits f → fieldAt (fieldHeader f) ≡ some f
+unfolding fieldAt
+field-read f h = let l : f < 16777216 = omega (arith, h) in rw (pack-low 16777216 f 128 l, pack-high 16777216 f 128 l, lt-ltb f 127 h)
+
+-- the three places, each of which is a name or empty
+abbrev pub PlacesAre : ℕ → ℕ → ℕ → ℕ → List ℕ → Type 0
+PlacesAre n x y z xs = Each NameFits xs × (length xs ≤ 3) × (length xs ≡ n) × (places xs ≡ x + 128 * (y + 128 * z))
+
+places-word : (n x y z : ℕ) → Holding (PlacesAre n x y z) (placesIn n x y z)
+unfolding placesIn places
+places-word n x y z =
+    along-getD (λ n. Holding (PlacesAre n x y z)) none (λ k. tt) (placeForms x y z) (
+      under-eq _ x 127 _ (λ i. under-eq _ y 127 _ (λ j. under-eq _ z 127 (some []) (λ k. (tt, omega arith, refl, omega arith)))),
+      (
+        under-lt _ x 127 _ (λ i. under-eq _ y 127 _ (λ j. under-eq _ z 127 (some (x ∷ [])) (λ k. ((i, tt), omega arith, refl, omega arith)))),
+        (
+          under-lt _ x 127 _ (λ i. under-lt _ y 127 _ (λ j. under-eq _ z 127 (some (x ∷ y ∷ [])) (λ k. ((i, (j, tt)), omega arith, refl, omega arith)))),
+          (under-lt _ x 127 _ (λ i. under-lt _ y 127 _ (λ j. under-lt _ z 127 (some (x ∷ y ∷ z ∷ [])) (λ k. ((i, (j, (k, tt))), omega arith, refl, omega arith)))), tt),
+        ),
+      ),
+    )
+    n
+
+-- what the header of a method has
+abbrev pub MethodIs : ℕ → List ℕ → ℕ → Type 0
+MethodIs m xs x = NameFits m × Each NameFits xs × (length xs ≤ 3) × (methodHeader m xs ≡ x)
+
+digits-sum : (x q r s t a b c d e : ℕ) → a + 128 * q ≡ x → b + 4 * r ≡ q → c + 128 * s ≡ r → d + 128 * t ≡ s → e + 128 * 3 ≡ t
+    → a + 128 * (b + 4 * (c + 128 * (d + 128 * e) + 2097152 * 3)) ≡ x
+digits-sum x q r s t a b c d e h i j k l = omega arith
+
+-- a digit, and the quotient behind it
+digit : (x m n : ℕ) → x / m % n + n * (x / (m * n)) ≡ x / m
+digit x m n = ap (λ q. x / m % n + n * q) (sym (div-div-eq-div-mul x m n)) ∙ mod-add-div (x / m) n
+
+digits : (x : ℕ) → x / 1073741824 ≡ 3 → x % 128 + 128 * (x / 128 % 4 + 4 * (x / 512 % 128 + 128 * (x / 65536 % 128 + 128 * (x / 8388608 % 128)) + 2097152 * 3)) ≡ x
+digits x h =
+    digits-sum x (x / 128) (x / 512) (x / 65536) (x / 8388608) (x % 128) (x / 128 % 4) (x / 512 % 128) (x / 65536 % 128) (x / 8388608 % 128)
+    (mod-add-div x 128) (digit x 128 4) (digit x 512 128) (digit x 65536 128) (ap (λ q. x / 8388608 % 128 + 128 * q) (sym h) ∙ digit x 8388608 128)
+
+named-word : (x : ℕ) (o : Option (List ℕ)) → x / 1073741824 ≡ 3 → x % 128 < 127 → Holding (PlacesAre (x / 128 % 4) (x / 512 % 128) (x / 65536 % 128) (x / 8388608 % 128)) o
+    → Holding (λ h. MethodIs (h .0) (h .1) x) (named (x % 128) o)
+unfolding methodHeader
+named-word x none e l g = tt
+named-word x (some xs) e l g = (l, g .0, g .1, rw (g .2, g .3) (digits x e))
+
+pub method-word : (x : ℕ) → Holding (λ h. MethodIs (h .0) (h .1) x) (methodAt x)
+unfolding methodAt paramsAt
+method-word x =
+    under-eq _ (x / 1073741824) 3 _ (λ e. under-lt _ (x % 128) 127 (named (x % 128) (paramsAt x)) (λ l.
+    named-word x (paramsAt x) e l (places-word (x / 128 % 4) (x / 512 % 128) (x / 65536 % 128) (x / 8388608 % 128))))
+
+-- the next quotient
+past-digit : (x m n a b : ℕ) → a < n → x / m ≡ a + n * b → x / (m * n) ≡ b
+past-digit x m n a b h e = sym (div-div-eq-div-mul x m n) ∙ ap (λ q. q / n) e ∙ pack-high n a b h
+
+next-digit : (x m n a b : ℕ) → a < n → x / m ≡ a + n * b → x / m % n ≡ a
+next-digit x m n a b h e = ap (λ q. q % n) e ∙ pack-low n a b h
+
+-- three digits between the number of parameters and the two top bits
+places-digits : (m n x y z : ℕ) → m < 128 → n < 4 → x < 128 → y < 128 → z < 128 → paramsAt (m + 128 * (n + 4 * (x + 128 * (y + 128 * z) + 2097152 * 3))) ≡ placesIn n x y z
+unfolding paramsAt
+places-digits m n x y z h i a b c =
+    let w = m + 128 * (n + 4 * (x + 128 * (y + 128 * z) + 2097152 * 3)) in
+    let p : x + 128 * (y + 128 * z) + 2097152 * 3 ≡ x + 128 * (y + 128 * (z + 128 * 3)) = omega arith in
+    let q : w / 128 ≡ n + 4 * (x + 128 * (y + 128 * z) + 2097152 * 3) = pack-high 128 m _ h in
+    let r : w / 512 ≡ x + 128 * (y + 128 * (z + 128 * 3)) = past-digit w 128 4 n _ i q ∙ p in
+    let s : w / 65536 ≡ y + 128 * (z + 128 * 3) = past-digit w 512 128 x _ a r in
+    let t : w / 8388608 ≡ z + 128 * 3 = past-digit w 65536 128 y _ b s in
+    rw (next-digit w 128 4 n _ i q, next-digit w 512 128 x _ a r, next-digit w 65536 128 y _ b s, next-digit w 8388608 128 z 3 c t)
+
+params-read : (m : ℕ) (xs : List ℕ) → NameFits m → Each NameFits xs → length xs ≤ 3 → paramsAt (methodHeader m xs) ≡ some xs
+unfolding methodHeader places placesIn
+params-read m [] h g l = places-digits m 0 127 127 127 (omega (arith, h)) (omega arith) (omega arith) (omega arith) (omega arith)
+params-read m (x ∷ []) h g l =
+    places-digits m 1 x 127 127 (omega (arith, h)) (omega arith) (omega (arith, g .0)) (omega arith) (omega arith) ∙ rw (lt-ltb x 127 (g .0))
+params-read m (x ∷ y ∷ []) h g l =
+    places-digits m 2 x y 127 (omega (arith, h)) (omega arith) (omega (arith, g .0)) (omega (arith, g .1 .0)) (omega arith) ∙ rw (lt-ltb x 127 (g .0), lt-ltb y 127 (g .1 .0))
+params-read m (x ∷ y ∷ z ∷ []) h g l =
+    places-digits m 3 x y z (omega (arith, h)) (omega arith) (omega (arith, g .0)) (omega (arith, g .1 .0)) (omega (arith, g .1 .1 .0))
+    ∙ rw (lt-ltb x 127 (g .0), lt-ltb y 127 (g .1 .0), lt-ltb z 127 (g .1 .1 .0))
+params-read m (x ∷ y ∷ z ∷ u ∷ xs) h g l = absurd (omega arith)
+
+pub method-read : (m : ℕ) (xs : List ℕ) → NameFits m → Each NameFits xs → length xs ≤ 3 → methodAt (methodHeader m xs) ≡ some (m, xs)
+unfolding methodAt methodHeader
+method-read m xs h g l =
+    let w = m + 128 * (length xs + 4 * (places xs + 2097152 * 3)) in
+    let s = places-small xs l g in
+    let a : w / 1073741824 ≡ 3 = omega arith in
+    let b : w % 128 ≡ m = omega (arith, h) in
+    let c : paramsAt w ≡ some xs = params-read m xs h g l in
+    rw (a, b, c, lt-ltb m 127 h)
