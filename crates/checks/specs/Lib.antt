@@ -1,0 +1,25 @@
+-- where a script stands, and its names
+pub mod Stands
+pub mod Names
+-- limits
+pub mod Depth
+pub mod Size
+-- the table
+pub mod Narrow
+pub mod Writing
+pub mod Written
+-- passes over trees
+pub mod Trees
+pub mod TreeFits
+pub mod TreeCode
+pub mod Lines
+-- lists name a thing once
+pub mod Single
+pub mod SingleNames
+pub mod SinglePut
+pub mod SingleLines
+-- variables are bound
+pub mod Bound
+pub mod Levels
+pub mod BoundPut
+pub mod BoundLines

@@ -1,0 +1,196 @@
+-- A wide word as the word of a table, one for one: what is written for any word, and that for a script of at most 64 words of its own
+-- it is the word of the table. By cases on the form; a payload's digits are got back by their bounds. Assumes nothing.
+use Prim.Native.Nat.{ℕ, suc, _+_, _*_, _/_, _%_, _≤_, _<_}
+use mathlib.Core.Path.{_≡_, refl, ap, _∙_}
+use mathlib.Core.Bool.{cond}
+use mathlib.Core.List.{List, [], _∷_, _++_}
+use native.Mathlib.Omega.{arith}
+use borrow.Author.Tests.{ne-eqb}
+use lib.Dec.{eqb}
+use lib.ListN.{length}
+use Rattle.atlite.specs.Term.{Kind, plain}
+use Rattle.atlite.specs.Table.{countSrcs, Grammatical, GrammaticalAll, GrammaticalFields, GrammaticalMethods, GrammaticalLines}
+use Rattle.atlite.specs.Script.{Src, num, null, var, plus, percent, get, set, call, send, ask, letIn, future, fn, resolve, when, seq, literal, Srcs, nil, cons, SrcFields, noField, field, SrcMethods, noMethod, method, Line, expression, define}
+use Rattle.layout.specs.Pack.{node, flat, places}
+use Rattle.layout.specs.PackLaws.{Each}
+use Rattle.layout.specs.Terms.{kindNumber, tagged, asked, methodHeader}
+use Rattle.layout.specs.Tables.{encodeSrc, encodeSrcs, encodeFields, encodeSrcMethods, encodeLine}
+use Rattle.words.specs.Wide.{wide, pair, wideParams, wideMethod, wideSrc, wideSrcs, wideFields, wideMethods, wideLine, wideLines}
+use Rattle.checks.specs.Names.{Name, named, variable, all-named}
+
+unfoldable pub tableWord : ℕ → ℕ → ℕ
+tableWord k p = p % 16777216 + 16777216 * k
+
+-- an empty place of a table's method is 127, and 0 here
+unfoldable pub placed : ℕ → ℕ
+placed x = cond (eqb x 0) 127 x
+
+unfoldable pub methodWord : ℕ → ℕ
+methodWord p =
+    (p % 4096 + 128 * (p / 4096 % 4 + 4 * (placed (p / 16384 % 4096) + 128 * (placed (p / 16384 / 4096 % 4096) + 128 * placed (p / 16384 / 16777216 % 4096))))) % 1073741824
+    + 3221225472
+
+-- two digits of 12 bits, the second moved to where the table has it
+unfoldable pub pairWord : ℕ → ℕ → ℕ → ℕ
+pairWord m k p = tableWord k (p % 4096 + m * (p / 4096 % 4096))
+
+unfoldable pub narrowBy : ℕ → ℕ → ℕ
+narrowBy k p =
+    cond (eqb k 12) (pairWord 128 k p)
+    (cond (eqb k 13) (pairWord 512 k p)
+    (cond (eqb k 14) (pairWord 512 k p)
+    (cond (eqb k 64) (pairWord 512 k p)
+    (cond (eqb k 192) (methodWord p)
+    (tableWord k p)))))
+
+unfoldable pub narrow : ℕ → ℕ
+narrow h = narrowBy (h % 256) (h / 256)
+
+unfoldable pub narrowAll : List ℕ → List ℕ
+narrowAll [] = []
+narrowAll (h ∷ w) = narrow h ∷ narrowAll w
+
+-- ---- the words of each form
+of-wide : (k p : ℕ) → k < 256 → narrow (wide k p) ≡ narrowBy k p
+unfolding narrow
+of-wide k p h =
+    let a : (k + 256 * p) % 256 ≡ k = omega arith in
+    let b : (k + 256 * p) / 256 ≡ p = omega arith in
+    rw (a, b)
+
+plain-word : (k p : ℕ) → p < 16777216 → tableWord k p ≡ node k p
+unfolding tableWord
+plain-word k p h = omega arith
+
+pair-word : (m k x y : ℕ) → x < 4096 → y < 4096 → x + m * y < 16777216 → pairWord m k (pair x y) ≡ node k (x + m * y)
+unfolding pairWord
+pair-word m k x y h l s =
+    let a : (x + 4096 * y) % 4096 ≡ x = omega arith in
+    let b : (x + 4096 * y) / 4096 ≡ y = omega arith in
+    let d : y % 4096 ≡ y = omega arith in
+    rw (a, b, d) (plain-word k (x + m * y) s)
+
+-- a kind whose payload stands as it is
+kept : (k p : ℕ) → k < 256 → p < 16777216 → narrowBy k p ≡ tableWord k p → narrow (wide k p) ≡ node k p
+kept k p l h e = of-wide k p l ∙ e ∙ plain-word k p h
+
+-- a message's name and count
+sent : (k m n : ℕ) → k < 256 → m < 4096 → n ≤ 3 → narrowBy k (pair m n) ≡ pairWord 512 k (pair m n) → narrow (wide k (pair m n)) ≡ node k (asked (plain m) n)
+unfolding tagged
+sent k m n l h s e = of-wide k (pair m n) l ∙ e ∙ pair-word 512 k m n h (omega arith) (omega arith) ∙ omega arith
+
+literal-kept : (k : Kind) (p : ℕ) → p < 16777216 → narrow (wide (kindNumber k) p) ≡ node (kindNumber k) p
+unfolding kindNumber narrowBy
+literal-kept Kind.object p h = kept 15 p (omega arith) h refl
+literal-kept Kind.isolate p h = kept 16 p (omega arith) h refl
+literal-kept Kind.actor p h = kept 17 p (omega arith) h refl
+
+-- ---- a method's header
+placed-name : (w x : ℕ) → Name w x → placed x ≡ x
+unfolding placed
+placed-name w x h = rw (ne-eqb x 0 (λ e. omega (arith, h .above)))
+
+module _ (m n x y z : ℕ) (hm : m < 4096) (hn : n < 4) (hx : x < 4096) (hy : y < 4096) (hz : z < 4096) where
+  abbrev payload : ℕ
+  payload = pair m (n + 4 * pair x (pair y z))
+
+  method-digits : methodWord payload ≡ (m + 128 * (n + 4 * (placed x + 128 * (placed y + 128 * placed z)))) % 1073741824 + 3221225472
+  unfolding methodWord
+  method-digits =
+      let a : payload % 4096 ≡ m = omega arith in
+      let b : payload / 4096 ≡ n + 4 * pair x (pair y z) = omega arith in
+      let b′ : (n + 4 * pair x (pair y z)) % 4 ≡ n = omega arith in
+      let c : payload / 16384 ≡ pair x (pair y z) = omega arith in
+      let d : pair x (pair y z) % 4096 ≡ x = omega arith in
+      let e : pair x (pair y z) / 4096 ≡ pair y z = omega arith in
+      let e′ : pair y z % 4096 ≡ y = omega arith in
+      let f : pair x (pair y z) / 16777216 ≡ z = omega arith in
+      let f′ : z % 4096 ≡ z = omega arith in
+      rw (a, b, b′, c, d, e, e′, f, f′)
+
+method-word : (w m : ℕ) (xs : List ℕ) → w ≤ 64 → Name w m → length xs ≤ 3 → Each (Name w) xs → narrow (wideMethod m xs) ≡ methodHeader m xs
+unfolding wideMethod wideParams methodHeader narrowBy places placed
+method-word w m [] l hm h a = of-wide 192 _ (omega arith) ∙ method-digits m 0 0 0 0 (omega (arith, hm .below)) (omega arith) (omega arith) (omega arith) (omega arith) ∙ omega (arith, hm .below)
+method-word w m (x ∷ []) l hm h a =
+    of-wide 192 _ (omega arith)
+    ∙ method-digits m 1 x 0 0 (omega (arith, hm .below)) (omega arith) (omega (arith, a .0 .below)) (omega arith) (omega arith)
+    ∙ rw (placed-name w x (a .0)) (omega (arith, hm .below, a .0 .below))
+method-word w m (x ∷ y ∷ []) l hm h a =
+    of-wide 192 _ (omega arith)
+    ∙ method-digits m 2 x y 0 (omega (arith, hm .below)) (omega arith) (omega (arith, a .0 .below)) (omega (arith, a .1 .0 .below)) (omega arith)
+    ∙ rw (placed-name w x (a .0), placed-name w y (a .1 .0)) (omega (arith, hm .below, a .0 .below, a .1 .0 .below))
+method-word w m (x ∷ y ∷ z ∷ []) l hm h a =
+    let last : z + 4096 * 0 ≡ z = omega arith in
+    of-wide 192 _ (omega arith)
+    ∙ ap (λ q. methodWord (pair m (3 + 4 * pair x (pair y q)))) last
+    ∙ method-digits m 3 x y z (omega (arith, hm .below)) (omega arith) (omega (arith, a .0 .below)) (omega (arith, a .1 .0 .below)) (omega (arith, a .1 .1 .0 .below))
+    ∙ rw (placed-name w x (a .0), placed-name w y (a .1 .0), placed-name w z (a .1 .1 .0)) (omega (arith, hm .below, a .0 .below, a .1 .0 .below, a .1 .1 .0 .below))
+method-word w m (x ∷ y ∷ z ∷ u ∷ xs) l hm h a = absurd (omega arith)
+
+-- ---- scripts
+narrow-append : (v u : List ℕ) → narrowAll (v ++ u) ≡ narrowAll v ++ narrowAll u
+unfolding narrowAll
+narrow-append [] u = refl
+narrow-append (x ∷ v) u = ap (λ l. narrow x ∷ l) (narrow-append v u)
+
+narrow-nil : narrowAll [] ≡ []
+unfolding narrowAll
+narrow-nil = refl
+
+pub length-narrow : (w : List ℕ) → length (narrowAll w) ≡ length w
+unfolding narrowAll
+length-narrow [] = refl
+length-narrow (h ∷ w) = ap suc (length-narrow w)
+
+one-word : (h h′ : ℕ) (v v′ : List ℕ) → narrow h ≡ h′ → narrowAll v ≡ v′ → narrowAll (h ∷ v) ≡ h′ ∷ v′
+unfolding narrowAll
+one-word h h′ v v′ e p = rw (e, p)
+
+two-words : (h h′ : ℕ) (v v′ u u′ : List ℕ) → narrow h ≡ h′ → narrowAll v ≡ v′ → narrowAll u ≡ u′ → narrowAll (h ∷ (v ++ u)) ≡ h′ ∷ (v′ ++ u′)
+two-words h h′ v v′ u u′ e p q = one-word h h′ (v ++ u) (v′ ++ u′) e (narrow-append v u ∙ rw (p, q))
+
+small : (w x : ℕ) → w ≤ 64 → Name w x → x < 16777216
+small w x l h = omega (arith, h .below)
+
+mutual
+  unfolding encodeSrc wideSrc Grammatical narrowBy
+
+  narrow-src : (e : Src) (w : ℕ) → w ≤ 64 → Grammatical w e → narrowAll (wideSrc e) ≡ encodeSrc e
+  narrow-src (num n) w l g = one-word _ _ [] [] (kept 2 n (omega arith) (omega arith) refl) narrow-nil
+  narrow-src null w l g = one-word _ _ [] [] (kept 1 0 (omega arith) (omega arith) refl) narrow-nil
+  narrow-src (var x) w l g = one-word _ _ [] [] (kept 6 x (omega arith) (omega (arith, variable w x g)) refl) narrow-nil
+  narrow-src (plus a b) w l g = two-words _ _ _ _ _ _ (kept 7 0 (omega arith) (omega arith) refl) (narrow-src a w l (g .0)) (narrow-src b w l (g .1))
+  narrow-src (percent a b) w l g = two-words _ _ _ _ _ _ (kept 8 0 (omega arith) (omega arith) refl) (narrow-src a w l (g .0)) (narrow-src b w l (g .1))
+  narrow-src (get e f) w l g = one-word _ _ _ _ (kept 9 f (omega arith) (small w f l (named w f (g .1))) refl) (narrow-src e w l (g .0))
+  narrow-src (set e f d) w l g = two-words _ _ _ _ _ _ (kept 10 f (omega arith) (small w f l (named w f (g .1))) refl) (narrow-src e w l (g .0)) (narrow-src d w l (g .2))
+  narrow-src (letIn x e d) w l g = two-words _ _ _ _ _ _ (kept 11 x (omega arith) (small w x l (named w x (g .0))) refl) (narrow-src e w l (g .1)) (narrow-src d w l (g .2))
+  narrow-src (future x y e) w l g =
+      let hx = named w x (g .0) .below in
+      let hy = named w y (g .1) .below in
+      one-word _ _ _ _ (of-wide 12 (pair x y) (omega arith) ∙ pair-word 128 12 x y (omega arith) (omega arith) (omega arith)) (narrow-src e w l (g .2))
+  narrow-src (call e m es) w l g = two-words _ _ _ _ _ _ (sent 13 m (countSrcs es) (omega arith) (omega (arith, named w m (g .1) .below)) (g .2) refl) (narrow-src e w l (g .0)) (narrow-srcs es w l (g .3))
+  narrow-src (send e m es) w l g = two-words _ _ _ _ _ _ (sent 14 m (countSrcs es) (omega arith) (omega (arith, named w m (g .1) .below)) (g .2) refl) (narrow-src e w l (g .0)) (narrow-srcs es w l (g .3))
+  narrow-src (ask e m es) w l g = two-words _ _ _ _ _ _ (sent 64 m (countSrcs es) (omega arith) (omega (arith, named w m (g .1) .below)) (g .2) refl) (narrow-src e w l (g .0)) (narrow-srcs es w l (g .3))
+  narrow-src (literal k fs ms) w l g = two-words _ _ _ _ _ _ (literal-kept k _ (omega (arith, g .0, g .2))) (narrow-fields fs w l (g .1)) (narrow-methods ms w l (g .3))
+  narrow-src (fn x e) w l g = one-word _ _ _ _ (kept 65 x (omega arith) (small w x l (named w x (g .0))) refl) (narrow-src e w l (g .1))
+  narrow-src (resolve a b) w l g = two-words _ _ _ _ _ _ (kept 66 0 (omega arith) (omega arith) refl) (narrow-src a w l (g .0)) (narrow-src b w l (g .1))
+  narrow-src (when e x d) w l g = two-words _ _ _ _ _ _ (kept 67 x (omega arith) (small w x l (named w x (g .1))) refl) (narrow-src e w l (g .0)) (narrow-src d w l (g .2))
+  narrow-src (seq a b) w l g = two-words _ _ _ _ _ _ (kept 68 0 (omega arith) (omega arith) refl) (narrow-src a w l (g .0)) (narrow-src b w l (g .1))
+
+  narrow-srcs : (es : Srcs) (w : ℕ) → w ≤ 64 → GrammaticalAll w es → narrowAll (wideSrcs es) ≡ encodeSrcs es
+  narrow-srcs nil w l g = narrow-nil
+  narrow-srcs (cons e es) w l g = narrow-append (wideSrc e) (wideSrcs es) ∙ rw (narrow-src e w l (g .0), narrow-srcs es w l (g .1))
+
+  narrow-fields : (fs : SrcFields) (w : ℕ) → w ≤ 64 → GrammaticalFields w fs → narrowAll (wideFields fs) ≡ encodeFields fs
+  narrow-fields noField w l g = narrow-nil
+  narrow-fields (field f e fs) w l g = two-words _ _ _ _ _ _ (kept 128 f (omega arith) (small w f l (named w f (g .0))) refl) (narrow-src e w l (g .1)) (narrow-fields fs w l (g .2))
+
+  narrow-methods : (ms : SrcMethods) (w : ℕ) → w ≤ 64 → GrammaticalMethods w ms → narrowAll (wideMethods ms) ≡ encodeSrcMethods ms
+  narrow-methods noMethod w l g = narrow-nil
+  narrow-methods (method m xs e ms) w l g = two-words _ _ _ _ _ _ (method-word w m xs l (named w m (g .0)) (g .1) (all-named w xs (g .2))) (narrow-src e w l (g .3)) (narrow-methods ms w l (g .4))
+
+pub narrow-lines : (ls : List Line) (w : ℕ) → w ≤ 64 → GrammaticalLines w ls → narrowAll (wideLines ls) ≡ flat encodeLine ls
+unfolding wideLines wideLine encodeLine flat GrammaticalLines narrowBy
+narrow-lines [] w l g = narrow-nil
+narrow-lines (expression e ∷ ls) w l g = narrow-append (wideSrc e) (flat wideLine ls) ∙ rw (narrow-src e w l (g .0)) (ap (λ v. encodeSrc e ++ v) (narrow-lines ls w l (g .1)))
+narrow-lines (define x e ∷ ls) w l g = two-words _ _ _ _ _ _ (kept 130 x (omega arith) (small w x l (named w x (g .0))) refl) (narrow-src e w l (g .1)) (narrow-lines ls w l (g .2))

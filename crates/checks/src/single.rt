@@ -1,0 +1,129 @@
+// That no list of a script names one thing twice.
+ghost use mathlib.Core.Path.{_≡_};
+ghost use Prim.Native.Nat.{_≤_};
+ghost use Rattle.checks.specs.Single.{fresh as freshIn, apart as areApart, own as ownOf, noted as notedBy, Walked};
+ghost use Rattle.checks.specs.SingleLines.{LinesSingle, Single};
+use crate::tree;
+
+// Whether `x` is none of the last three names in `names`.
+fn fresh(names: u64, x: u64) -> bool
+    ensures { λ r. ⌜ r ≡ freshIn names x ⌝ }
+{
+    if names % 4096 == x {
+        return false;
+    }
+    if names / 4096 % 4096 == x {
+        return false;
+    }
+    if names / 16777216 % 4096 == x {
+        return false;
+    }
+    true
+}
+
+// Whether the names among three parameters differ; a place is 0 where there are fewer.
+fn apart(x: u64, y: u64, z: u64) -> bool
+    ensures { λ r. ⌜ r ≡ areApart x y z ⌝ }
+{
+    if y == 0 {
+        return true;
+    }
+    if x == y {
+        return false;
+    }
+    if z == 0 {
+        return true;
+    }
+    if x == z {
+        return false;
+    }
+    if y == z {
+        return false;
+    }
+    true
+}
+
+// Whether the names that the word `h` lists differ, and its own is none of those in `names`.
+fn own(h: u64, names: u64) -> bool
+    ensures { λ r. ⌜ r ≡ ownOf h names ⌝ }
+{
+    let k = h % 256;
+    let p = h / 256;
+    match k {
+        12 => {
+            if p % 4096 == p / 4096 % 4096 {
+                return false;
+            }
+            true
+        }
+        128 => fresh(names, p % 4096),
+        192 => {
+            if fresh(names, p % 4096) {
+                return apart(
+                    p / 16384 % 4096,
+                    p / 16384 / 4096 % 4096,
+                    p / 16384 / 16777216 % 4096,
+                );
+            }
+            false
+        }
+        _ => true,
+    }
+}
+
+// The names, with that of the header `h`.
+fn noted(h: u64, names: u64) -> u64
+    ensures { λ r. ⌜ r ≡ notedBy h names ⌝ }
+{
+    if h % 256 < 128 {
+        return names;
+    }
+    h / 256 % 4096 + 4096 * (names % 68719476736)
+}
+
+// The end of the `n` trees at `at`, or 8192 where a list in them names one thing twice. `names` are those of the headers before them.
+fn walk(s: &[u64; 4096], words: usize, at: usize, n: usize, names: u64) -> usize
+    requires { ⌜ (words ≤ 4096) × (at ≤ 8192) ⌝ }
+    ensures { λ r. ⌜ Walked (now (s .entry)) words at n names r ⌝ }
+    ensures { λ r. ⌜ (at ≤ r) × (r ≤ 8192) ⌝ }
+{
+    if n == 0 {
+        return at;
+    }
+    if words <= at {
+        return 8192;
+    }
+    let h = s[at];
+    if own(h, names) {
+        let m = walk(s, words, at + 1, tree::outer(h), 0);
+        let e = walk(s, words, m, tree::inner(h), 0);
+        return walk(s, words, e, n - 1, noted(h, names));
+    }
+    8192
+}
+
+// Whether names are single in the `left` lines at `at`.
+fn lines_single(s: &[u64; 4096], words: usize, at: usize, left: usize) -> bool
+    requires { ⌜ (words ≤ 4096) × (at ≤ 8192) ⌝ }
+    ensures { λ r. ⌜ LinesSingle (now (s .entry)) words at left r ⌝ }
+{
+    if left == 0 {
+        return true;
+    }
+    if words <= at {
+        return false;
+    }
+    let e = walk(s, words, tree::line_start(s[at], at), 1, 0);
+    if e == 8192 {
+        return false;
+    }
+    lines_single(s, words, e, left - 1)
+}
+
+// Whether names are single in the script that the lines in the first `words` words join to.
+pub fn single(s: &[u64; 4096], words: usize, lines: usize) -> bool
+    requires { ⌜ words ≤ 4096 ⌝ }
+    ensures { λ r. ⌜ Single (now (s .entry)) words lines r ⌝ }
+{
+    lines_single(s, words, 0, lines)
+}

@@ -1,0 +1,73 @@
+-- The scratch form of a script: a word of 64 bits for each node and header, in the order of a table's words. Assumes nothing.
+--
+-- A text of 4,096 bytes may have far more words than a table has names for, and the reader has to tell causes 2, 3 and 4 of it all
+-- the same. So it first puts a script into words that are wide enough for any such text, checks those, and narrows them to the words
+-- of a table in the end. A wide word is its kind, the same number as in a table, and a payload of names of 12 bits; a method's header
+-- has kind 192. This is no part of what a caller has to believe: a table is `encodeTable` of crate `layout`.
+use Prim.Native.Nat.{ℕ, suc, _+_, _*_}
+use mathlib.Core.List.{List, [], _∷_, _++_}
+use lib.ListN.{length}
+use Rattle.atlite.specs.Term.{Kind}
+use Rattle.atlite.specs.Script.{Src, num, null, var, plus, percent, get, set, call, send, ask, letIn, future, fn, resolve, when, seq, literal, Srcs, nil, cons, SrcFields, noField, field, SrcMethods, noMethod, method, Line, expression, define}
+use Rattle.atlite.specs.Table.{countSrcs, countFields, countMethods}
+use Rattle.layout.specs.Pack.{flat}
+use Rattle.layout.specs.Terms.{kindNumber}
+
+abbrev pub wide : ℕ → ℕ → ℕ
+wide k p = k + 256 * p
+
+-- two names, or a name and a count
+abbrev pub pair : ℕ → ℕ → ℕ
+pair x y = x + 4096 * y
+
+-- up to three parameters, an empty place 0
+unfoldable pub wideParams : List ℕ → ℕ
+wideParams [] = 0
+wideParams (x ∷ xs) = pair x (wideParams xs)
+
+-- name, number of parameters, parameters
+unfoldable pub wideMethod : ℕ → List ℕ → ℕ
+wideMethod m xs = wide 192 (pair m (length xs + 4 * wideParams xs))
+
+unfoldable mutual
+  pub wideSrc : Src → List ℕ
+  wideSrc null = wide 1 0 ∷ []
+  wideSrc (num n) = wide 2 n ∷ []
+  wideSrc (var x) = wide 6 x ∷ []
+  wideSrc (plus a b) = wide 7 0 ∷ (wideSrc a ++ wideSrc b)
+  wideSrc (percent a b) = wide 8 0 ∷ (wideSrc a ++ wideSrc b)
+  wideSrc (get e f) = wide 9 f ∷ wideSrc e
+  wideSrc (set e f d) = wide 10 f ∷ (wideSrc e ++ wideSrc d)
+  wideSrc (letIn x e d) = wide 11 x ∷ (wideSrc e ++ wideSrc d)
+  wideSrc (future x y e) = wide 12 (pair x y) ∷ wideSrc e
+  wideSrc (call e m es) = wide 13 (pair m (countSrcs es)) ∷ (wideSrc e ++ wideSrcs es)
+  wideSrc (send e m es) = wide 14 (pair m (countSrcs es)) ∷ (wideSrc e ++ wideSrcs es)
+  wideSrc (literal k fs ms) = wide (kindNumber k) (countFields fs + 8 * countMethods ms) ∷ (wideFields fs ++ wideMethods ms)
+  wideSrc (ask e m es) = wide 64 (pair m (countSrcs es)) ∷ (wideSrc e ++ wideSrcs es)
+  wideSrc (fn x e) = wide 65 x ∷ wideSrc e
+  wideSrc (resolve e d) = wide 66 0 ∷ (wideSrc e ++ wideSrc d)
+  wideSrc (when e x d) = wide 67 x ∷ (wideSrc e ++ wideSrc d)
+  wideSrc (seq a b) = wide 68 0 ∷ (wideSrc a ++ wideSrc b)
+
+  pub wideSrcs : Srcs → List ℕ
+  wideSrcs nil = []
+  wideSrcs (cons e es) = wideSrc e ++ wideSrcs es
+
+  pub wideFields : SrcFields → List ℕ
+  wideFields noField = []
+  wideFields (field f e fs) = wide 128 f ∷ (wideSrc e ++ wideFields fs)
+
+  pub wideMethods : SrcMethods → List ℕ
+  wideMethods noMethod = []
+  wideMethods (method m xs e ms) = wideMethod m xs ∷ (wideSrc e ++ wideMethods ms)
+
+unfoldable pub wideLine : Line → List ℕ
+wideLine (expression e) = wideSrc e
+wideLine (define x e) = wide 130 x ∷ wideSrc e
+
+unfoldable pub wideLines : List Line → List ℕ
+wideLines ls = flat wideLine ls
+
+unfoldable pub Wide : Unit {0}
+unfolding wideParams wideMethod wideSrc wideLine wideLines
+Wide = tt

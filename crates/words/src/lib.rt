@@ -1,0 +1,40 @@
+// Runs of words and bytes, compared and copied.
+ghost use Prim.Native.Nat.{_≤_};
+ghost use lib.ListN.{length, take};
+ghost use Rattle.words.specs.Runs.{Still, Same, Copied};
+
+// One more pair of words.
+fn still(same: bool, x: u32, y: u32) -> bool
+    ensures { λ r. ⌜ Still same x y r ⌝ }
+{
+    if x == y {
+        return same;
+    }
+    false
+}
+
+// Whether `a` and `b` begin with the same `n` words. It looks at all of them, so that it runs on many at a time.
+pub fn same_words(a: &[u32], b: &[u32], n: usize) -> bool
+    requires { ⌜ (n ≤ length (now a)) × (n ≤ length (now b)) ⌝ }
+    ensures { λ r. ⌜ Same (take n (now (a .entry))) (take n (now (b .entry))) r ⌝ }
+{
+    let mut same = true;
+    let mut i = 0;
+    while i < n {
+        same = still(same, a[i], b[i]);
+        i += 1;
+    }
+    same
+}
+
+// Puts the first `n` bytes of `from` in front of `to`.
+pub fn copy_bytes(from: &[u8], n: usize, to: &mut [u8])
+    requires { ⌜ (n ≤ length (now from)) × (n ≤ length (now to)) ⌝ }
+    ensures { λ r. ⌜ Copied (now (from .entry)) n (now (to .entry)) (now (to .exit)) ⌝ }
+{
+    let mut i = 0;
+    while i < n {
+        to[i] = from[i];
+        i += 1;
+    }
+}
