@@ -1,0 +1,19 @@
+-- `printer::put_head` meets its contract: five writes, one after another. Assumes nothing.
+use borrow.Author.Needs.{needs}
+use Rattle.printer.specs.HeadLaws.{head-whole}
+use Rattle.printer.proofs.put_head.Statement.{statement}
+use Rattle.printer.proofs.put_head.Tie as tie
+
+pub put-head-spec : {M : Type 1} → statement M
+put-head-spec =
+    tie.close
+    (tie.spec
+    (λ c κs. search needs)  -- first-name-requires
+    (λ c κs. search needs)  -- second-name-requires
+    (λ c κs. search needs)  -- put-requires
+    (λ c κs. search needs)  -- put-keyword-requires
+    (λ c κs. search needs)  -- put-name-requires
+    (λ c κs. search needs)  -- put-name-requires-2
+    (λ c κs. search needs)  -- put-params-requires
+    (λ c. search head-whole)  -- returns
+    )

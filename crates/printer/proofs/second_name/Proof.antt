@@ -1,0 +1,11 @@
+-- `printer::second_name` meets its contract, by the test of `second`. Assumes nothing.
+use borrow.Author.Needs.{needs}
+use Rattle.printer.specs.HeadLaws.{second-laws}
+use Rattle.printer.proofs.second_name.Statement.{statement}
+use Rattle.printer.proofs.second_name.Tie as tie
+
+pub second-name-spec : {M : Type 1} → statement M
+second-name-spec = tie.close (tie.spec (λ c. search needs)  -- cast-result
+    (λ c. search second-laws)  -- returns
+    (λ c. search second-laws)  -- returns-2
+    )

@@ -1,0 +1,14 @@
+pub mod Writing
+pub mod Shown
+pub mod Codes
+pub mod Printed
+pub mod PutLaws
+pub mod HeadLaws
+pub mod ShowLaws
+pub mod Spelling
+pub mod Says
+pub mod Nesting
+pub mod Nested
+pub mod Shows
+pub mod Tables
+pub mod PrintLaws
