@@ -1,0 +1,6 @@
+pub mod Runs
+pub mod Codes
+pub mod RunLaws
+pub mod Keywords
+pub mod CodeLaws
+pub mod Scans
