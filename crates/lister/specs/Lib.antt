@@ -1,0 +1,17 @@
+-- what the code is proved against
+pub mod Listed
+pub mod Codes
+-- the laws of its functions
+pub mod SlotLaws
+pub mod ActorLaws
+-- the words of a state show its listing
+pub mod Spelling
+pub mod Says
+pub mod Words
+pub mod Shows
+pub mod Messages
+pub mod Entities
+pub mod States
+-- what listing promises
+pub mod Bounds
+pub mod Lists

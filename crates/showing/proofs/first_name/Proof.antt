@@ -1,0 +1,16 @@
+use borrow.Author.Needs.{needs}
+use Rattle.showing.specs.HeadLaws.{laws}
+use Rattle.showing.proofs.first_name.Statement.{statement}
+use Rattle.showing.proofs.first_name.Tie as tie
+use Rattle.showing.proofs.first_name.Reads as reads
+use Rattle.showing.proofs.first_name.Lts as lts
+
+pub first-name-spec : {M : Type 1} → statement M
+first-name-spec =
+    tie.close (tie.spec (λ c. search laws)  -- returns
+    (λ c. search needs)  -- cast-result
+    (λ c. search laws)  -- returns-2
+    (λ c. search laws)  -- returns-3
+    (λ c. search needs)  -- cast-result-2
+    (λ c. search laws)  -- returns-4
+    )

@@ -1,0 +1,21 @@
+use borrow.Author.Needs.{needs}
+use Rattle.showing.specs.HeadLaws.{laws}
+use Rattle.showing.proofs.name_after.Statement.{statement}
+use Rattle.showing.proofs.name_after.Tie as tie
+use Rattle.showing.proofs.name_after.Reads as reads
+use Rattle.showing.proofs.name_after.Lts as lts
+
+pub name-after-spec : {M : Type 1} → statement M
+name-after-spec =
+    tie.close
+    (tie.spec
+    (λ c. search laws)  -- returns
+    (λ c. search needs)  -- cast-result
+    (λ c. search laws)  -- returns-2
+    (λ c. search laws)  -- returns-3
+    (λ c. search needs)  -- cast-result-2
+    (λ c. search laws)  -- returns-4
+    (λ c. search needs)  -- cast-result-3
+    (λ c. search laws)  -- returns-5
+    (λ c. search laws)  -- returns-6
+    )

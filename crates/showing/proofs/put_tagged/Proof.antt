@@ -1,0 +1,30 @@
+use borrow.Author.Needs.{needs}
+use Rattle.showing.specs.PutLaws.{laws}
+use Rattle.showing.proofs.put_tagged.Statement.{statement}
+use Rattle.showing.proofs.put_tagged.Tie as tie
+use Rattle.showing.proofs.put_tagged.Reads as reads
+use Rattle.showing.proofs.put_tagged.Lts as lts
+use Rattle.showing.proofs.put_bytes.Reads as put-bytes-reads
+use Rattle.showing.proofs.put_word.Reads as put-word-reads
+
+pub put-tagged-spec : {M : Type 1} → statement M
+put-tagged-spec =
+    tie.close
+    (tie.spec
+    (λ c κs. search needs)  -- put-word-requires
+    (λ c. search needs)  -- same-length
+    (λ c. search laws)  -- returns
+    (λ c κs. search needs)  -- put-word-requires-2
+    (λ c. search needs)  -- slice-aggregate-put-bytes
+    (λ c κs. search needs)  -- put-bytes-requires
+    (λ c. search needs)  -- same-length-2
+    (λ c. search laws)  -- returns-2
+    (λ c. search needs)  -- slice-aggregate-put-bytes-2
+    (λ c κs. search needs)  -- put-bytes-requires-2
+    (λ c. search needs)  -- same-length-3
+    (λ c. search laws)  -- returns-3
+    (λ c. search needs)  -- slice-aggregate-put-bytes-3
+    (λ c κs. search needs)  -- put-bytes-requires-3
+    (λ c. search needs)  -- same-length-4
+    (λ c. search laws)  -- returns-4
+    )

@@ -1,0 +1,27 @@
+-- What the functions that show terms promise. Assumes nothing.
+use mathlib.Core.Path.{_≡_}
+use mathlib.Core.List.{List}
+use Prim.Native.Nat.{ℕ, _≤_}
+use lib.ListN.{drop}
+use Rattle.showing.specs.Writing.{most, Wrote}
+use Rattle.showing.specs.Shown.{Text}
+
+-- the name x, or 127
+pub record Name (x r : ℕ) : Type 0 where
+  pub is : r ≡ x
+  pub small : r ≤ 127
+
+-- the same with its tag
+pub record Tagged (x r : ℕ) : Type 0 where
+  pub is : r ≡ x
+  pub small : r ≤ 511
+
+pub record Arity (n r : ℕ) : Type 0 where
+  pub is : r ≡ n
+  pub small : r ≤ 14
+
+-- The text of s was written at o and p is the next position; the words of t that s leaves begin at i.
+pub record Showed (t : List ℕ) (s : Text) (old : List ℕ) (o : ℕ) (new : List ℕ) (i p : ℕ) : Type 0 where
+  pub text : Wrote old o (s .text) new p
+  pub rest : drop i t ≡ s .rest
+  pub small : p ≤ most

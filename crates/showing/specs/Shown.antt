@@ -1,0 +1,141 @@
+-- The text that words stand for, whatever words they are: what the lister's code is proved against. A word has an opening, a
+-- number of operands and a closing bracket; each operand stands behind a space, and a name may stand behind the first. So one
+-- rule shows every form, and only `keyword`, `first`, `second`, `after` and `arity` know the kinds. A message is shown as a form
+-- of kind 18, which no term has. Assumes nothing.
+use Prim.Native.Nat.{ℕ, zero, suc, _+_, _-_, _*_, _/_, _%_}
+use mathlib.Core.Bool.{cond}
+use mathlib.Core.List.{List, [], _∷_, _++_}
+use lib.ListN.{getD}
+use lib.Dec.{eqb, ltb}
+use Rattle.atlite.specs.Base.{bytes}
+use Rattle.atlite.specs.Lexicon.{Bytes}
+use Rattle.atlite.specs.Printer.{printNumber}
+
+-- ---- names
+-- no name stands here
+abbrev pub noName : ℕ
+noName = 127
+
+-- a byte of a word; zero is none
+unfoldable pub letterIn : ℕ → Bytes
+letterIn b = cond (eqb b 0) [] (b ∷ [])
+
+-- four letters, the first lowest
+unfoldable pub lettersIn : ℕ → Bytes
+lettersIn v = letterIn (v % 256) ++ (letterIn (v / 256 % 256) ++ (letterIn (v / 65536 % 256) ++ letterIn (v / 16777216)))
+
+-- the words that every state knows
+unfoldable pub knownIn : ℕ → Bytes
+knownIn x =
+    cond (eqb x 0) (bytes "this") (cond (eqb x 1) (bytes ".t") (cond (eqb x 2) (bytes ".f") (cond (eqb x 3) (bytes ".r")
+    (cond (eqb x 4) (bytes ".l") (cond (eqb x 5) (bytes ".s") (cond (eqb x 6) (bytes ".x") (bytes "apply")))))))
+
+-- the word of number x in the dictionary of the words t; past its end there is none
+unfoldable pub wordIn : List ℕ → ℕ → Bytes
+wordIn t x =
+    cond (ltb x 8) (knownIn x) (cond (ltb (x - 8) (getD t 1 0))
+    (lettersIn (getD t (3 * x - 22) 0) ++ (lettersIn (getD t (3 * x - 21) 0) ++ lettersIn (getD t (3 * x - 20) 0))) [])
+
+-- a name with its tag: plain, two-way, `.resolve`, `.register`
+unfoldable pub taggedIn : List ℕ → ℕ → Bytes
+taggedIn t c =
+    cond (ltb c 128) (wordIn t c) (cond (ltb c 256) (wordIn t (c - 128) ++ bytes ".f")
+    (cond (ltb c 384) (bytes ".resolve") (bytes ".register")))
+
+-- the same behind a space
+unfoldable pub nameIn : List ℕ → ℕ → Bytes
+nameIn t c = cond (eqb c noName) [] ((32 ∷ []) ++ taggedIn t c)
+
+-- ---- one word of a term
+abbrev pub payload : ℕ
+payload = 16777216
+
+unfoldable pub keyword : ℕ → Bytes
+keyword k =
+    cond (eqb k 7) (bytes "plus") (cond (eqb k 8) (bytes "percent") (cond (eqb k 9) (bytes "get") (cond (eqb k 10) (bytes "set")
+    (cond (eqb k 11) (bytes "let") (cond (eqb k 12) (bytes "future") (cond (eqb k 13) (bytes "call") (cond (eqb k 14) (bytes "send")
+    (cond (eqb k 15) (bytes "object") (cond (eqb k 16) (bytes "isolate") (cond (eqb k 17) (bytes "actor") (cond (eqb k 18) (bytes "message")
+    (cond (eqb k 128) (bytes "field") (bytes "method")))))))))))))
+
+-- the name behind the operator
+unfoldable pub first : ℕ → ℕ
+first h =
+    cond (ltb (h / payload) 11) noName (cond (ltb (h / payload) 13) (h % 128) (cond (ltb (h / payload) 128) noName (h % 128)))
+
+-- the name behind that one
+unfoldable pub second : ℕ → ℕ
+second h = cond (eqb (h / payload) 12) (h / 128 % 128) noName
+
+-- three names in brackets, behind a space
+unfoldable pub openIn : List ℕ → ℕ → Bytes
+openIn t x = (32 ∷ 40 ∷ []) ++ wordIn t x
+
+unfoldable pub placesIn : List ℕ → ℕ → ℕ → ℕ → Bytes
+placesIn t x y z = openIn t x ++ (nameIn t y ++ (nameIn t z ++ (41 ∷ [])))
+
+-- the parameters of a method
+unfoldable pub paramsIn : List ℕ → ℕ → Bytes
+paramsIn t h = cond (ltb (h / payload) 192) [] (placesIn t (h / 512 % 128) (h / 65536 % 128) (h / 8388608 % 128))
+
+-- the name behind the first operand, with its tag
+unfoldable pub after : ℕ → ℕ
+after h =
+    cond (ltb (h / payload) 9) noName (cond (ltb (h / payload) 11) (h % 128) (cond (ltb (h / payload) 13) noName
+    (cond (ltb (h / payload) 15) (h % 512) (cond (eqb (h / payload) 18) (h % 512) noName))))
+
+unfoldable pub arity : ℕ → ℕ
+arity h =
+    cond (ltb (h / payload) 9) 2 (cond (eqb (h / payload) 9) 1 (cond (ltb (h / payload) 12) 2 (cond (eqb (h / payload) 12) 1
+    (cond (ltb (h / payload) 15) (1 + h / 512 % 8) (cond (ltb (h / payload) 18) (h % 8 + h / 8 % 8)
+    (cond (eqb (h / payload) 18) (1 + h / 512 % 8) 1))))))
+
+-- what stands before the operands
+unfoldable pub operatorIn : ℕ → Bytes
+operatorIn k = (40 ∷ []) ++ keyword k
+
+unfoldable pub headIn : List ℕ → ℕ → Bytes
+headIn t h = operatorIn (h / payload) ++ (nameIn t (first h) ++ (nameIn t (second h) ++ paramsIn t h))
+
+-- a series between two numbers
+unfoldable pub seriesIn : ℕ → Bytes
+seriesIn s = cond (eqb s 0) (bytes " m ") (bytes " c ")
+
+-- the actor of a reference
+unfoldable pub ownerIn : ℕ → Bytes
+ownerIn a = bytes "(ref " ++ printNumber a
+
+unfoldable pub refIn : ℕ → Bytes
+refIn h = ownerIn (h / 131072 % 128) ++ (seriesIn (h / 65536 % 2) ++ (printNumber (h % 65536) ++ (41 ∷ [])))
+
+-- a word with no operands: a value or a variable
+unfoldable pub leafIn : List ℕ → ℕ → Bytes
+leafIn t h =
+    cond (eqb (h / payload) 1) (bytes "null") (cond (eqb (h / payload) 2) (printNumber (h % payload))
+    (cond (eqb (h / payload) 3) (refIn h) (wordIn t (h % 128))))
+
+-- ---- terms
+-- a text, and the words that are left
+pub record Text : Type 0 where
+  pub text : Bytes
+  pub rest : List ℕ
+
+-- n operands, each shown by S; the name x stands behind the first
+unfoldable pub operandsIn : List ℕ → (List ℕ → Text) → ℕ → ℕ → List ℕ → Text
+operandsIn t S x zero w = record { text = []; rest = w }
+operandsIn t S x (suc n) w =
+    let a = S w in
+    let b = operandsIn t S noName n (a .rest) in
+    record { text = (32 ∷ []) ++ (a .text ++ (nameIn t x ++ b .text)); rest = b .rest }
+
+unfoldable pub formIn : List ℕ → (List ℕ → Text) → ℕ → List ℕ → Text
+formIn t S h w = let a = operandsIn t S (after h) (arity h) w in record { text = headIn t h ++ (a .text ++ (41 ∷ [])); rest = a .rest }
+
+-- the term that w begins with, if at most n of its words lie in one another
+unfoldable pub shown : List ℕ → ℕ → List ℕ → Text
+shown t zero w = record { text = []; rest = w }
+shown t (suc n) [] = record { text = []; rest = [] }
+shown t (suc n) (h ∷ w) = cond (ltb (h / payload) 7) (record { text = leafIn t h; rest = w }) (formIn t (shown t n) h w)
+
+unfoldable pub Shown·all : Unit {0}
+unfolding taggedIn nameIn keyword first second openIn placesIn paramsIn after arity operatorIn headIn seriesIn ownerIn refIn leafIn operandsIn formIn shown
+Shown·all = tt
