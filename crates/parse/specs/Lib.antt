@@ -1,0 +1,17 @@
+-- what the functions answer
+pub mod Atoms
+pub mod Heads
+pub mod Steps
+-- laws, one for each way to return
+pub mod NumberLaws
+pub mod NameLaws
+pub mod AtomLaws
+pub mod StepLaws
+pub mod FormLaws
+pub mod ListLaws
+pub mod MethodLaws
+pub mod PartLaws
+pub mod Cycle
+-- lines and the whole text
+pub mod Lines
+pub mod Parses

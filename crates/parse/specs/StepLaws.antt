@@ -1,0 +1,352 @@
+-- One step of the descent after another: positions, writes, and the forms of expressions and words. Assumes nothing.
+use mathlib.Core.Path.{_≡_, refl, sym, ap, _∙_}
+use mathlib.Core.Bool.{Bool, true, false}
+use mathlib.Core.Option.{none, some}
+use mathlib.Core.List.{List, [], _∷_, _++_}
+use Prim.Native.Nat.{ℕ, zero, suc, _+_, _-_, _*_, _≤_, _<_}
+use native.Mathlib.Nat.{add-zero, add-suc, suc-add, zero-add}
+use native.Mathlib.Numerals.{add-one}
+use native.Mathlib.Omega.{arith}
+use borrow.Author.Needs.{needs}
+use lib.ListN.{length, drop, set, length-append, length-set}
+use lib.Seq.{sets, length-sets, set-comm}
+use Rattle.atlite.specs.Base.{Result, done, refused, _>>=_}
+use Rattle.atlite.specs.Lexicon.{Bytes, dictionary}
+use Rattle.atlite.specs.Script.{Src, Srcs}
+use Rattle.atlite.specs.Table.{countSrcs}
+use Rattle.atlite.specs.Reader.{Reading, eat, after, spaced, spacedWord, readArgs, readItems, readExpr}
+use Rattle.words.specs.Wide.{wide, pair, wideSrc, wideSrcs}
+use Rattle.scan.specs.Runs.{Run, Starts}
+use Rattle.parse.specs.declared.Name.{Name}
+use Rattle.parse.specs.declared.Name.the-variants.{Word, NoWord}
+use Rattle.parse.specs.declared.Step.{Step}
+use Rattle.parse.specs.declared.Step.the-variants.{Done, Bad}
+use Rattle.parse.specs.declared.Listed.{Listed}
+use Rattle.parse.specs.declared.Listed.the-variants.{Items, NoItems}
+use Rattle.parse.specs.Atoms.{NameRead, Named, NameOf, SpacedName}
+use Rattle.parse.specs.NameLaws.{eat-starts, eat-not, starts-room}
+use Rattle.parse.specs.Steps.{Place, Read, Took, Reads, ClosedAt, Closed, ListRead, TookList, Lists, spaceds, exprs, readOne, ones, oneWords, readPair, twos, twoWords, readGet, gets, getWords, readMid, mids, midWords, readSend, sends, sendWords, argsFrom}
+
+-- ---- writes
+pub sets-append : (xs ys l : List ℕ) (i : ℕ) → sets (sets l i xs) (i + length xs) ys ≡ sets l i (xs ++ ys)
+sets-append [] ys l i = rw add-zero
+sets-append (x ∷ xs) ys l i = rw (add-suc, ← suc-add) (sets-append xs ys (set l i x) (suc i))
+
+set-before : (xs l : List ℕ) (i k h : ℕ) → i < k → set (sets l k xs) i h ≡ sets (set l i h) k xs
+set-before [] l i k h p = refl
+set-before (x ∷ xs) l i k h p =
+    set-before xs (set l k x) i (suc k) h (omega arith) ∙ ap (λ (m : List ℕ). sets m (suc k) xs) (set-comm l k i x h (λ e. omega arith))
+
+-- the head word is stored last
+pub headed : (xs l : List ℕ) (o h : ℕ) → set (sets l (o + 1) xs) o h ≡ sets l o (h ∷ xs)
+headed xs l o h = rw (add-one o) (set-before xs l o (suc o) h (omega arith))
+
+-- ---- places
+module _ (A : Type 0) (enc : A → List ℕ) (R : ℕ → Reading A) (t : Bytes) (at o : ℕ) (old new : List ℕ) (a : Step) (i p : ℕ)
+    (e : a ≡ Done i p) (s : Reads enc R t at o old new a) where
+  once : Read enc t at o old new (R (length t - at + 1) (drop at t)) i p
+  unfolding Reads Took
+  once = rw e at (s (length t - at + 1) (omega arith))
+
+  pub place-step : Place t at o → Place t i p
+  place-step h =
+      let r = once in
+      let b = r .short in
+      let c = h .behind in
+      let w = r .within in
+      record { short = h .short; within = w; behind = omega arith }
+
+  pub place-form : Place t at (o + 1) → Place t i p
+  place-form h = let c = h .behind in place-step (record { short = h .short; within = h .within; behind = omega arith })
+
+  pub fall-step : (m τ : ℕ) → 6 * (length t - at) + m ≡ τ → 6 * (length t - i) + 5 < τ
+  fall-step m τ q = let r = once in let f = r .far in let w = r .within in omega arith
+
+  pub fall-step-more : (τ : ℕ) → 6 * (length t - at) + 5 < τ → 6 * (length t - i) + 5 < τ
+  fall-step-more τ q = let r = once in let f = r .far in let w = r .within in omega arith
+
+module _ (t : Bytes) (at : ℕ) (x : Name) (y i : ℕ) (e : x ≡ Word y i) where
+  pub place-word : (o : ℕ) → SpacedName t at x → Place t at o → Place t i o
+  unfolding SpacedName Named
+  place-word o s h = let r = rw e at s in let f = r .far in let b = h .behind in record { short = h .short; within = r .within; behind = omega arith }
+
+  pub place-name : (o : ℕ) → NameOf t at x → Place t at o → Place t i o
+  unfolding NameOf Named
+  place-name o s h = let r = rw e at s in let f = r .far in let b = h .behind in record { short = h .short; within = r .within; behind = omega arith }
+
+  pub fall-word : (m τ : ℕ) → SpacedName t at x → 6 * (length t - at) + m ≡ τ → 6 * (length t - i) + 5 < τ
+  unfolding SpacedName Named
+  fall-word m τ s q = let r = rw e at s in let f = r .far in let w = r .within in omega arith
+
+  pub fall-word-more : (τ : ℕ) → SpacedName t at x → 6 * (length t - at) + 5 < τ → 6 * (length t - i) + 5 < τ
+  unfolding SpacedName Named
+  fall-word-more τ s q = let r = rw e at s in let f = r .far in let w = r .within in omega arith
+
+  pub fall-name : (m τ : ℕ) → NameOf t at x → 6 * (length t - at) + m ≡ τ → 6 * (length t - i) + 5 < τ
+  unfolding NameOf Named
+  fall-name m τ s q = let r = rw e at s in let f = r .far in let w = r .within in omega arith
+
+module _ (L i τ : ℕ) (h : 6 * (L - i) + 5 < τ) where
+  pub fall₁ : 6 * (L - i) + 1 < τ
+  fall₁ = omega arith
+
+  pub fall₂ : 6 * (L - i) + 2 < τ
+  fall₂ = omega arith
+
+  pub fall₃ : 6 * (L - i) + 3 < τ
+  fall₃ = omega arith
+
+pub place-more : (t : List ℕ) (at o k b : ℕ) (v : Bytes) (r : Bool) → Starts t at (b ∷ v) r → r ≡ true → k ≡ suc (length v)
+    → Place t at o → Place t (at + k) (o + 1)
+place-more t at o k b v r s e l h =
+    let c = h .behind in
+    record { short = h .short; within = starts-room t at k (b ∷ v) r s e l; behind = omega arith }
+
+pub place-space : (t : List ℕ) (at o : ℕ) (r : Bool) → Starts t at (32 ∷ []) r → r ≡ true → Place t at o → Place t (at + 1) o
+place-space t at o r s e h =
+    let c = h .behind in
+    record { short = h .short; within = starts-room t at 1 (32 ∷ []) r s e refl; behind = omega arith }
+
+pub place-run : (t : List ℕ) (at o e : ℕ) → Run t at e → Place t at o → Place t e o
+place-run t at o e r h =
+    let c = h .behind in let f = r .from in record { short = h .short; within = r .within; behind = omega arith }
+
+-- ---- results
+module _ (A : Type 0) (enc : A → List ℕ) (t : Bytes) (at o : ℕ) (old new : List ℕ) where
+  -- from a later position
+  pub shift : (b : ℕ) (R Q : Result (A × Bytes)) (a : Step) → at ≤ b → Q ≡ R → Took enc t b o old new R a → Took enc t at o old new Q a
+  unfolding Took
+  shift b R Q (Done i p) l e r =
+      let f = r .far in
+      let s = r .short in
+      record { value = r .value; is = e ∙ r .is; far = omega arith; within = r .within; wrote = r .wrote; ends = r .ends; short = omega arith }
+  shift b R Q Bad l e r = e ∙ r
+
+  -- the closing bracket behind the words xs
+  pub finish : (mid xs : List ℕ) (v : A) (w j q : ℕ) (Q : Result (A × Bytes)) (a : Step) → Q ≡ (_>>=_ {B = A × Bytes} (eat 41 (drop j t)) (λ i. done (v, i)))
+      → enc v ≡ w ∷ xs → mid ≡ sets old (o + 1) xs → q ≡ o + 1 + length xs → q + at ≤ o + 1 + j → at ≤ j
+      → Closed t j mid o w q new a → Took enc t at o old new Q a
+  unfolding Took Closed
+  finish mid xs v w j q Q (Done i p) e c m l s f r =
+      let n = r .next in
+      let d = r .ends in
+      record {
+        value = v;
+        is = e ∙ rw (r .is);
+        far = omega arith;
+        within = r .within;
+        wrote = r .wrote ∙ rw (m, c) (headed xs old o w);
+        ends = rw c (omega arith);
+        short = omega arith;
+      }
+  finish mid xs v w j q Q Bad e c m l s f r = e ∙ rw r
+
+-- ---- a space before
+module _ (t : Bytes) (at o : ℕ) (old new : List ℕ) (r : Bool) (s : Starts t at (32 ∷ []) r) where
+  pub spaced-so : (a : Step) → r ≡ true → Reads wideSrc (exprs t) t (at + 1) o old new a → Reads wideSrc (spaceds t) t at o old new a
+  unfolding Reads spaceds exprs spaced
+  spaced-so a k h n l = shift Src wideSrc t at o old new (at + 1) _ _ a (omega arith) (rw (eat-starts t at 32 r s k)) (h n (omega arith))
+
+  pub spaced-not : r ≡ false → Reads wideSrc (spaceds t) t at o old new Bad
+  unfolding Reads Took spaceds spaced
+  spaced-not k n l = rw (eat-not t at 32 r s k)
+
+-- ---- one expression, and two
+Spaced : Bytes → ℕ → ℕ → ℕ → List ℕ → List ℕ → ℕ → ℕ → Type 0
+Spaced t n at o old new i p = Read wideSrc t at o old new (spaced (readExpr n (dictionary t)) (drop at t)) i p
+
+Words : Bytes → ℕ → ℕ → ℕ → Type 0
+Words t at y i = NameRead (spacedWord (dictionary t) (drop at t)) t at y i
+
+module _ (t : Bytes) (at o : ℕ) (old m₁ new : List ℕ) (a : Step) (s : Reads wideSrc (spaceds t) t at (o + 1) old m₁ a) where
+  module _ (n : ℕ) (l : length t - at < n) where
+    first : (i p : ℕ) → a ≡ Done i p → Spaced t n at (o + 1) old m₁ i p
+    unfolding Reads Took spaceds Spaced
+    first i p e = rw e at (s n l)
+
+    first-bad : a ≡ Bad → spaced (readExpr n (dictionary t)) (drop at t) ≡ refused 2
+    unfolding Reads Took spaceds
+    first-bad e = rw e at (s n l)
+
+  one-core : (n w i p : ℕ) (r : Step) → Spaced t n at (o + 1) old m₁ i p → Closed t i m₁ o w p new r
+      → Took (oneWords w) t at o old new (ones t n (drop at t)) r
+  unfolding ones readOne oneWords Spaced
+  one-core n w i p r x c =
+      let b = x .short in
+      let f = x .far in
+      finish Src (oneWords w) t at o old new m₁ (wideSrc (x .value)) (x .value) w i p _ r (rw (x .is)) refl (x .wrote) (x .ends) (omega arith) (omega arith) c
+
+  pub one-done : (w i p : ℕ) (r : Step) → a ≡ Done i p → Closed t i m₁ o w p new r → Reads (oneWords w) (ones t) t at o old new r
+  unfolding Reads
+  one-done w i p r e c n l = one-core n w i p r (first n l i p e) c
+
+  pub one-bad : (w : ℕ) → a ≡ Bad → Reads (oneWords w) (ones t) t at o old new Bad
+  unfolding Reads Took ones readOne
+  one-bad w e n l = rw (first-bad n l e)
+
+  module _ (i p : ℕ) (e : a ≡ Done i p) where
+    -- a word
+    module _ (x : Name) (v : SpacedName t i x) where
+      word : (y j : ℕ) → x ≡ Word y j → Words t i y j
+      unfolding SpacedName Named Words
+      word y j d = rw d at v
+
+      word-bad : x ≡ NoWord → spacedWord (dictionary t) (drop i t) ≡ refused 2
+      unfolding SpacedName Named
+      word-bad d = rw d at v
+
+      get-core : (n w y j : ℕ) (r : Step) → Spaced t n at (o + 1) old m₁ i p → Words t i y j → w ≡ wide 9 y → Closed t j m₁ o w p new r
+          → Took getWords t at o old new (gets t n (drop at t)) r
+      unfolding gets readGet getWords Spaced Words
+      get-core n w y j r z k h c =
+          let b = z .short in
+          let f = z .far in
+          let g = k .far in
+          finish (Src × ℕ) getWords t at o old new m₁ (wideSrc (z .value)) (z .value, y) w j p _ r (rw (z .is) (rw (k .is))) (rw h) (z .wrote) (z .ends)
+          (omega arith) (omega arith) c
+
+      pub get-done : (w y j : ℕ) (r : Step) → x ≡ Word y j → w ≡ wide 9 y → Closed t j m₁ o w p new r → Reads getWords (gets t) t at o old new r
+      unfolding Reads
+      get-done w y j r d h c n l = get-core n w y j r (first n l i p e) (word y j d) h c
+
+      get-worse : (n : ℕ) → Spaced t n at (o + 1) old m₁ i p → spacedWord (dictionary t) (drop i t) ≡ refused 2 → gets t n (drop at t) ≡ refused 2
+      unfolding gets readGet Spaced
+      get-worse n z k = rw (z .is) (rw k)
+
+      pub get-bad : x ≡ NoWord → Reads getWords (gets t) t at o old new Bad
+      unfolding Reads Took
+      get-bad d n l = get-worse n (first n l i p e) (word-bad d)
+
+      mid-worse : (n : ℕ) → Spaced t n at (o + 1) old m₁ i p → spacedWord (dictionary t) (drop i t) ≡ refused 2 → mids t n (drop at t) ≡ refused 2
+      unfolding mids readMid Spaced
+      mid-worse n z k = rw (z .is) (rw k)
+
+      pub mid-word-bad : (k : ℕ) → x ≡ NoWord → Reads (midWords k) (mids t) t at o old new Bad
+      unfolding Reads Took
+      mid-word-bad k d n l = mid-worse n (first n l i p e) (word-bad d)
+
+      send-worse : (n : ℕ) → Spaced t n at (o + 1) old m₁ i p → spacedWord (dictionary t) (drop i t) ≡ refused 2 → sends t n (drop at t) ≡ refused 2
+      unfolding sends readSend Spaced
+      send-worse n z k = rw (z .is) (rw k)
+
+      pub send-word-bad : (k : ℕ) → x ≡ NoWord → Reads (sendWords k) (sends t) t at o old new Bad
+      unfolding Reads Took
+      send-word-bad k d n l = send-worse n (first n l i p e) (word-bad d)
+
+  pub two-first-bad : (w : ℕ) → a ≡ Bad → Reads (twoWords w) (twos t) t at o old new Bad
+  unfolding Reads Took twos readPair
+  two-first-bad w e n l = rw (first-bad n l e)
+
+  pub get-first-bad : a ≡ Bad → Reads getWords (gets t) t at o old new Bad
+  unfolding Reads Took gets readGet
+  get-first-bad e n l = rw (first-bad n l e)
+
+  pub mid-first-bad : (k : ℕ) → a ≡ Bad → Reads (midWords k) (mids t) t at o old new Bad
+  unfolding Reads Took mids readMid
+  mid-first-bad k e n l = rw (first-bad n l e)
+
+  pub send-first-bad : (k : ℕ) → a ≡ Bad → Reads (sendWords k) (sends t) t at o old new Bad
+  unfolding Reads Took sends readSend
+  send-first-bad k e n l = rw (first-bad n l e)
+
+-- ---- arguments
+module _ (t : Bytes) (at o b : ℕ) (old new : List ℕ) (r : Bool) (s : Starts t at (41 ∷ []) r) where
+  closes : r ≡ true → after (41 ∷ []) (drop at t) ≡ some (drop (at + 1) t)
+  unfolding Starts
+  closes k = rw k at s .0
+
+  open-still : r ≡ false → after (41 ∷ []) (drop at t) ≡ none
+  unfolding Starts
+  open-still k = rw k at s
+
+  args-end : (n k : ℕ) → r ≡ true → readItems Srcs.nil Srcs.cons (readExpr n (dictionary t)) k (drop at t) ≡ done (Srcs.nil, drop (at + 1) t)
+  unfolding readItems
+  args-end n zero e = rw (eat-starts t at 41 r s e)
+  args-end n (suc k) e = rw (closes e, readItems)
+
+  pub args-close : r ≡ true → b ≤ 3 → Lists wideSrcs countSrcs 3 b (argsFrom b t) t at o old old (Items (at + 1) o b)
+  unfolding Lists TookList argsFrom wideSrc countSrcs
+  args-close e h n l = record {
+    value = Srcs.nil;
+    is = args-end n (3 - b) e;
+    far = omega arith;
+    within = starts-room t at 1 (41 ∷ []) r s e refl;
+    wrote = refl;
+    ends = omega arith;
+    short = omega arith;
+    counted = omega arith;
+    few = h;
+  }
+
+  pub args-full : r ≡ false → b ≡ 3 → Lists wideSrcs countSrcs 3 b (argsFrom b t) t at o old new NoItems
+  unfolding Lists TookList argsFrom readItems
+  args-full e h n l = rw h (rw (eat-not t at 41 r s e))
+
+  module _ (e : r ≡ false) (h : b ≤ 3) (z : b ≡ 3 → ⊥) (m₁ : List ℕ) (a : Step) (u : Reads wideSrc (spaceds t) t at o old m₁ a) where
+    left : 3 - b ≡ suc (3 - (b + 1))
+    left = omega arith
+
+    args-worse : (n k : ℕ) → spaced (readExpr n (dictionary t)) (drop at t) ≡ refused 2
+        → readItems Srcs.nil Srcs.cons (readExpr n (dictionary t)) (suc k) (drop at t) ≡ refused 2
+    unfolding readItems
+    args-worse n k p = rw (open-still e, readItems) (rw p)
+
+    pub args-bad : a ≡ Bad → Lists wideSrcs countSrcs 3 b (argsFrom b t) t at o old new NoItems
+    unfolding Lists TookList argsFrom Reads Took spaceds
+    args-bad d n l = rw left (args-worse n (3 - (b + 1)) (rw d at (u n l)))
+
+    Tail : ℕ → ℕ → ℕ → ℕ → ℕ → ℕ → Type 0
+    Tail n i p k q c = ListRead wideSrcs countSrcs 3 (b + 1) t i p m₁ new (readItems Srcs.nil Srcs.cons (readExpr n (dictionary t)) (3 - (b + 1)) (drop i t)) k q c
+
+    args-next : (n i p k q c : ℕ) → Spaced t n at o old m₁ i p → Tail n i p k q c
+        → ListRead wideSrcs countSrcs 3 b t at o old new (readItems Srcs.nil Srcs.cons (readExpr n (dictionary t)) (suc (3 - (b + 1))) (drop at t)) k q c
+    unfolding readItems wideSrc countSrcs Spaced Tail
+    args-next n i p k q c x y =
+        let b₁ = x .short in
+        let b₂ = y .short in
+        let f = x .far in
+        let g = y .far in
+        let a₁ = x .ends in
+        let a₂ = y .ends in
+        let num = y .counted in
+        record {
+          value = Srcs.cons (x .value) (y .value);
+          is = rw (open-still e, readItems) (rw (x .is) (rw (y .is)));
+          far = omega arith;
+          within = y .within;
+          wrote = y .wrote ∙ rw (x .wrote, a₁) (sets-append (wideSrc (x .value)) (wideSrcs (y .value)) old o);
+          ends = omega (arith, length-append (wideSrc (x .value)) (wideSrcs (y .value)));
+          short = omega arith;
+          counted = omega arith;
+          few = y .few;
+        }
+
+    args-last : (n i : ℕ) (v : Src) → spaced (readExpr n (dictionary t)) (drop at t) ≡ done (v, drop i t)
+        → readItems Srcs.nil Srcs.cons (readExpr n (dictionary t)) (3 - (b + 1)) (drop i t) ≡ refused 2
+        → readItems Srcs.nil Srcs.cons (readExpr n (dictionary t)) (suc (3 - (b + 1))) (drop at t) ≡ refused 2
+    unfolding readItems
+    args-last n i v x y = rw (open-still e, readItems) (rw x (rw y))
+
+    pub args-more : (i p : ℕ) (c : Listed) → a ≡ Done i p → Lists wideSrcs countSrcs 3 (b + 1) (argsFrom (b + 1) t) t i p m₁ new c
+        → Lists wideSrcs countSrcs 3 b (argsFrom b t) t at o old new c
+    unfolding Lists TookList argsFrom Reads Took spaceds Spaced Tail
+    args-more i p (Items k q c) d v n l =
+        let x = rw d at (u n l) in let f = x .far in rw left (args-next n i p k q c x (v n (omega arith)))
+    args-more i p NoItems d v n l =
+        let x = rw d at (u n l) in let f = x .far in rw left (args-last n i (x .value) (x .is) (v n (omega arith)))
+
+-- ---- what the calls ask
+pub step-within : (A : Type 0) (enc : A → List ℕ) (R : ℕ → Reading A) (t : Bytes) (at o : ℕ) (old new : List ℕ) (a : Step) (i p : ℕ)
+    → a ≡ Done i p → Reads enc R t at o old new a → i ≤ length t
+step-within A enc R t at o old new a i p e s = let r = once A enc R t at o old new a i p e s in r .within
+
+pub args-small : (t : Bytes) (at o : ℕ) (old new : List ℕ) (b : Listed) (l q c : ℕ) → b ≡ Items l q c → Lists wideSrcs countSrcs 3 0 (argsFrom 0 t) t at o old new b → c < 4096
+unfolding Lists TookList
+args-small t at o old new b l q c e s = let r = rw e at (s (length t - at + 1) (omega arith)) in let f = r .few in omega arith
+
+pub fall-open : (t : Bytes) (at τ : ℕ) (r : Bool) → Starts t at (40 ∷ []) r → r ≡ true → 6 * (length t - at) ≡ τ → 6 * (length t - (at + 1)) + 5 < τ
+fall-open t at τ r s e q = let z = starts-room t at 1 (40 ∷ []) r s e refl in omega arith
+
+pub fall-more : (t : Bytes) (at k τ b : ℕ) (v : Bytes) (r : Bool) → Starts t at (b ∷ v) r → r ≡ true → k ≡ suc (length v) → 6 * (length t - at) + 1 ≡ τ
+    → 6 * (length t - (at + k)) + 2 < τ
+fall-more t at k τ b v r s e l q = let z = starts-room t at k (b ∷ v) r s e l in omega arith
