@@ -106,7 +106,7 @@ pub record SameEnd (w v w′ v′ : List ℕ) : Type 0 where
   pub writes : (s t : List ℕ) → length s ≡ length t
       → written (listCall w′ s .result) (listCall w′ s .buffer) ≡ written (listCall v′ t .result) (listCall v′ t .buffer)
 
--- each list works on its own copy of the start
+-- The claim of demand 3: w and v are two buffers that publish one state, one for each list, so neither list sees the other's moves.
 abbrev pub TwoLists : Type 0
 TwoLists =
     (w v : List ℕ) → take stateWords w ≡ take stateWords v
