@@ -13,6 +13,7 @@ use Rattle.layout.specs.Pack.{zeros, pad, flat}
 use Rattle.layout.specs.PackLaws.{length-zeros, length-flat}
 use Rattle.layout.specs.Layout.{encodeWord}
 use Rattle.layout.specs.Whole.{words-three}
+use Rattle.layout.specs.Writes.{sets-append}
 use Rattle.layout.specs.Tables.{encodeLine, encodeTable}
 use Rattle.words.specs.Wide.{wideLines}
 use Rattle.checks.specs.Stands.{Stands, within}
@@ -26,15 +27,11 @@ Written s words lines low high count old new =
     (ws : List Bytes) (ls : List Line) → count ≡ length ws → Numbers low high ws → Stands s words lines ls → GrammaticalLines (length ws) ls
     → new ≡ encodeTable (record { words = ws; lines = ls }) ++ drop 1280 old
 
-sets-sets : (xs ys l : List ℕ) (i : ℕ) → sets (sets l i xs) (i + length xs) ys ≡ sets l i (xs ++ ys)
-sets-sets [] ys l i = let e : i + 0 ≡ i = omega arith in rw e
-sets-sets (x ∷ xs) ys l i = let e : i + suc (length xs) ≡ suc i + length xs = omega arith in rw e (sets-sets xs ys (set l i x) (suc i))
-
 -- one region more
 further : (old xs ys l new : List ℕ) (n : ℕ) → l ≡ sets old 0 xs → n ≡ length xs → new ≡ sets l n ys → new ≡ sets old 0 (xs ++ ys)
 further old xs ys l new n e h p =
     let z : n ≡ 0 + length xs = omega arith in
-    rw (p, e, z) (sets-sets xs ys old 0)
+    rw (p, e, z) (sets-append xs ys old 0)
 
 module _ (s : List ℕ) (words lines : ℕ) (low high : List ℕ) (count : ℕ) (old : List ℕ) where
   -- the regions are the table's

@@ -9,6 +9,7 @@ use native.Mathlib.Omega.{arith}
 use lib.ListN.{length, take, drop, length-append, take-append-drop}
 use lib.Seq.{take-at, drop-at}
 use Rattle.atlite.specs.Base.{done, refused, orRefuse}
+use Rattle.atlite.specs.Facts.{found}
 use Rattle.atlite.specs.State.{State}
 use Rattle.atlite.specs.Move.{Answer, Moved, move}
 use Rattle.atlite.specs.Run.{run, Counts}
@@ -24,7 +25,7 @@ use Rattle.layout.specs.Decode.{stateOf}
 use Rattle.layout.specs.Tables.{tableWords, encodeTable}
 use Rattle.layout.specs.TableReading.{tableOf}
 use Rattle.layout.specs.Meaning.{answered, room, tableIn, stateIn, lent, readCall, printCall, loadCall, moveCall, runCall, listCall}
-use Rattle.layout.specs.Results.{done-same, bind-done, then-done, or-refuse-done}
+use Rattle.layout.specs.Results.{done-same, bind-done, then-done}
 use Rattle.layout.specs.Outcomes.{room-done, room-enough, room-short, Outcome, outcome, refusal-leaves, answer-writes, length-stays}
 use Rattle.layout.specs.Laws.{state-length, state-of, of-state}
 use Rattle.layout.specs.TableLaws.{table-length, table-of, of-table}
@@ -42,7 +43,7 @@ pub state-lent : (w : List ℕ) (σ : State) → lent w ≡ done σ → IsState 
 unfolding lent stateIn
 state-lent w σ e =
     let a = then-done (room stateWords w) (orRefuse 7 (stateOf (take stateWords w))) σ e in
-    let q = of-state (take stateWords w) σ (or-refuse-done 7 (stateOf (take stateWords w)) σ (a .1)) in
+    let q = of-state (take stateWords w) σ (found 7 (stateOf (take stateWords w)) σ (a .1)) in
     (q .0, sym (take-append-drop stateWords w) ∙ ap (λ l. l ++ drop stateWords w) (sym (q .1)), room-done stateWords w (a .0))
 
 -- which lists are lent as a state
@@ -193,7 +194,7 @@ table-lent T r h = rw (take-at (encodeTable T) r tableWords (table-length T h), 
 
 pub lent-table : (w : List ℕ) (T : Table) → tableIn w ≡ done T → IsTable T × (encodeTable T ≡ take tableWords w)
 unfolding tableIn
-lent-table w T e = of-table (take tableWords w) T (or-refuse-done 7 (tableOf (take tableWords w)) T e)
+lent-table w T e = of-table (take tableWords w) T (found 7 (tableOf (take tableWords w)) T e)
 
 abbrev pub Read : List ℕ → List ℕ → Unit {0} → List ℕ → Type 0
 Read text table u w = (T : Table) × IsTable T × (textOf T ≡ text) × (w ≡ encodeTable T) × (tableWords ≤ length table)

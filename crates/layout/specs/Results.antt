@@ -22,7 +22,3 @@ unfolding require
 require-done n true e = refl
 require-done n false e = absurd (refused-done e)
 
-pub or-refuse-done : {A : Type 0} (n : ℕ) (o : Option A) (a : A) → orRefuse n o ≡ done a → o ≡ some a
-unfolding orRefuse
-or-refuse-done n none a e = absurd (refused-done e)
-or-refuse-done n (some b) a e = cc

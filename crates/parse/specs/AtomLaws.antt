@@ -22,7 +22,7 @@ use Rattle.parse.specs.declared.Name.the-variants.{Word, NoWord}
 use Rattle.parse.specs.declared.Step.{Step}
 use Rattle.parse.specs.declared.Step.the-variants.{Done, Bad}
 use Rattle.parse.specs.Atoms.{Digits, NumberIs, NameRead, Named, NameOf}
-use Rattle.parse.specs.NameLaws.{eat-starts, eat-not, starts-room}
+use Rattle.parse.specs.NameLaws.{eat-starts, eat-not, starts-room, name-small}
 use Rattle.parse.specs.Steps.{Place, Read, Took, ClosedAt, Closed}
 
 -- ---- the closing bracket
@@ -145,10 +145,6 @@ module _ (t : Bytes) (at o e : ℕ) (old new : List ℕ) (h : Run t at e) where
       pub no-atom : (c : Name) → NameOf t at c → c ≡ NoWord → Took wideSrc t at o old new (readAtom (dictionary t) (drop at t)) Bad
       unfolding NameOf Named Took
       no-atom c n d = let k = rw d at n in by-name ∙ rw k
-
-pub name-small : (t : Bytes) (at : ℕ) (c : Name) (y i : ℕ) → NameOf t at c → c ≡ Word y i → y < 4096
-unfolding NameOf Named
-name-small t at c y i n d = rw d at n .small
 
 pub number-small : (w : Bytes) (d : Numbers) (n : ℕ) → NumberIs w d → d ≡ Is n → n ≤ 16777215
 unfolding NumberIs

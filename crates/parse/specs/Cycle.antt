@@ -1,7 +1,7 @@
 -- The laws of the descent, a set for each function. Assumes nothing.
 use borrow.Author.Needs.{needs}
-use Rattle.parse.specs.NameLaws.{starts-room}
-use Rattle.parse.specs.Heads.{spaced-small, spaced-within, name-within, name-small′}
+use Rattle.parse.specs.NameLaws.{starts-room, name-small}
+use Rattle.parse.specs.Heads.{spaced-small, spaced-within, name-within}
 use Rattle.parse.specs.StepLaws.{place-step, place-form, fall-step, fall-step-more, place-word, place-name, fall-word, fall-word-more, fall-name, fall₁, fall₂, fall₃, place-more, place-space, place-run, spaced-so, spaced-not, one-done, one-bad, two-first-bad, get-done, get-bad, get-first-bad, mid-word-bad, mid-first-bad, send-word-bad, send-first-bad, args-close, args-full, args-bad, args-more, step-within, args-small, fall-open, fall-more}
 use Rattle.parse.specs.PartLaws.{two-part, last-done, last-bad, argued-done, argued-bad, mid-part, send-part}
 use Rattle.parse.specs.FormLaws.{expr-open, expr-atom, bracket-form, form-plus, form-percent, form-resolve, form-seq, form-get, form-set, form-when, form-call, form-message, form-ask, form-object, form-isolate, form-actor, form-let, form-future, form-fn, form-none, form-rest, let-bad, let-done, fn-bad, fn-done, future-bad, future-later-bad, future-done}
@@ -108,7 +108,7 @@ pub ruleset field-fall = (fall-name, fall-step-more, fall₁, fall₂)
 
 pub ruleset field-back = (field-bad, field-value-bad, field-done)
 
-pub ruleset field-misc = (needs, name-small′)
+pub ruleset field-misc = (needs, name-small)
 
 pub ruleset methods-place = (place-more)
 

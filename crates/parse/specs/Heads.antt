@@ -24,7 +24,7 @@ use Rattle.parse.specs.declared.Heads.the-variants.{Names, NoNames}
 use Rattle.parse.specs.declared.Header.{Header}
 use Rattle.parse.specs.declared.Header.the-variants.{Head, NoHead}
 use Rattle.parse.specs.Atoms.{NameRead, Named, NameOf, SpacedName}
-use Rattle.parse.specs.NameLaws.{eat-starts, eat-not, starts-room}
+use Rattle.parse.specs.NameLaws.{eat-starts, eat-not, starts-room, name-small}
 
 pub record NamesRead (k : ℕ) (R : Result (List ℕ × Bytes)) (t : Bytes) (at i c q : ℕ) : Type 0 where
   pub value : List ℕ
@@ -302,8 +302,4 @@ module _ (t : Bytes) (at : ℕ) (x : Name) (s : NameOf t at x) where
   unfolding HeaderOf NameOf Named readHeader TookHead
   header-none u = let a = rw u at s in rw a
 
-pub name-small′ : (t : Bytes) (at : ℕ) (c : Name) (y i : ℕ) → NameOf t at c → c ≡ Word y i → y < 4096
-unfolding NameOf Named
-name-small′ t at c y i n d = rw d at n .small
-
-pub ruleset laws = (needs, starts-room, items-close, items-full, items-more, items-bad, items-rest-bad, names-close, names-more, names-bad, names-rest-bad, count-fits, scaled-fits′, packed-fits, count-fits₂, scaled-fits₂, packed-fits₂, spaced-small, spaced-within, name-within, name-small′, names-few, names-small, params-done, params-bad, params-none, header-so, header-none)
+pub ruleset laws = (needs, starts-room, items-close, items-full, items-more, items-bad, items-rest-bad, names-close, names-more, names-bad, names-rest-bad, count-fits, scaled-fits′, packed-fits, count-fits₂, scaled-fits₂, packed-fits₂, spaced-small, spaced-within, name-within, name-small, names-few, names-small, params-done, params-bad, params-none, header-so, header-none)

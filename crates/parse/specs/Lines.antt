@@ -19,8 +19,8 @@ use Rattle.parse.specs.declared.Name.the-variants.{Word, NoWord}
 use Rattle.parse.specs.declared.Step.{Step}
 use Rattle.parse.specs.declared.Step.the-variants.{Done, Bad}
 use Rattle.parse.specs.Atoms.{NameRead, Named, NameOf}
-use Rattle.parse.specs.NameLaws.{eat-starts, eat-not, starts-room}
-use Rattle.parse.specs.Heads.{name-within, name-small′}
+use Rattle.parse.specs.NameLaws.{eat-starts, eat-not, starts-room, name-small}
+use Rattle.parse.specs.Heads.{name-within}
 use Rattle.parse.specs.Steps.{Place, Read, Took, Reads, exprs, readOne, ones, oneWords}
 use Rattle.parse.specs.StepLaws.{place-name, place-more, step-within, shift}
 use Rattle.parse.specs.FormLaws.{bind-assoc}
@@ -136,4 +136,4 @@ module _ (t : Bytes) (at o : ℕ) (old new : List ℕ) (r : Bool) (s : Starts t 
   unfolding Reads Starts lineOf readLine bytes sentences
   line-sentence k h n l = let y = rw k at s in shift Line wideLine t at o old new at _ _ a (omega arith) (rw (y, lineOf, readLine)) (h n l)
 
-pub ruleset laws = (needs, starts-room, newline-so, newline-not, place-name, place-more, name-small′, step-within, sentence-done, sentence-bad, definition-none, definition-done, definition-bad, line-definition, line-sentence)
+pub ruleset laws = (needs, starts-room, newline-so, newline-not, place-name, place-more, name-small, step-within, sentence-done, sentence-bad, definition-none, definition-done, definition-bad, line-definition, line-sentence)

@@ -26,7 +26,8 @@ use Rattle.parse.specs.declared.Listed.the-variants.{Items, NoItems}
 use Rattle.parse.specs.Atoms.{NameRead, Named, NameOf}
 use Rattle.parse.specs.Heads.{HeadRead, TookHead, HeaderOf, readAll, readHeader}
 use Rattle.parse.specs.Steps.{Place, Read, Took, Reads, Closed, ListRead, TookList, Lists, readOne, ones, oneWords, readLiteral, literals, literalWords, fieldsFrom, methodsFrom, fieldAt, methodAt, readRest, EndRead, TookEnd, Ended}
-use Rattle.parse.specs.StepLaws.{sets-append, headed}
+use Rattle.layout.specs.Writes.{sets-append}
+use Rattle.parse.specs.StepLaws.{headed}
 use Rattle.parse.specs.FormLaws.{bind-assoc}
 
 -- ---- places

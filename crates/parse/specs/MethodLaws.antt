@@ -26,7 +26,7 @@ use Rattle.parse.specs.declared.Listed.the-variants.{Items, NoItems}
 use Rattle.parse.specs.Atoms.{NameRead, Named, NameOf}
 use Rattle.parse.specs.Heads.{HeadRead, TookHead, HeaderOf, readAll, readHeader}
 use Rattle.parse.specs.Steps.{Place, Read, Took, Reads, Closed, ListRead, TookList, Lists, readOne, ones, oneWords, readLiteral, literals, literalWords, fieldsFrom, methodsFrom, fieldAt, methodAt}
-use Rattle.parse.specs.StepLaws.{sets-append}
+use Rattle.layout.specs.Writes.{sets-append}
 use Rattle.parse.specs.FormLaws.{bind-assoc}
 use Rattle.parse.specs.ListLaws.{item-core}
 

@@ -17,7 +17,7 @@ use Rattle.atlite.specs.Facts.{same-true, same-false-sym}
 use Rattle.scan.specs.Runs.{Run, Starts, index}
 use Rattle.scan.specs.Keywords.{index-le}
 use Rattle.scan.specs.Codes.{lowPart, highPart, Placed}
-use Rattle.scan.specs.Scans.{word-is, not-apply, word-room}
+use Rattle.scan.specs.Scans.{word-nonempty, word-is, not-apply, word-room}
 use Rattle.parse.specs.declared.Name.{Name}
 use Rattle.parse.specs.declared.Name.the-variants.{Word, NoWord}
 use Rattle.parse.specs.Atoms.{Ready, NameRead, Named, NameOf, SpacedName}
@@ -44,11 +44,6 @@ place-none (v ∷ ws) w n h = go (sameBytes v w) h (place-none ws w (suc n))
     go true k ih = absurd (omega arith)
     go false k ih = ih (omega arith)
 
-nonempty : (w : Bytes) → isWord w ≡ true → 0 < length w
-unfolding isWord letterFirst
-nonempty [] h = absurd (false≢true h)
-nonempty (b ∷ w) h = omega arith
-
 module _ (t : Bytes) (at e : ℕ) (h : Run t at e) where
   -- the reader on a run
   read-run : (ws : List Bytes)
@@ -57,7 +52,7 @@ module _ (t : Bytes) (at e : ℕ) (h : Run t at e) where
   read-run ws = rw (h .is, h .rest)
 
   far : isWord (slice at e t) ≡ true → at < e
-  far k = omega (arith, nonempty (slice at e t) k, length-slice at e t (h .within))
+  far k = omega (arith, word-nonempty (slice at e t) k, length-slice at e t (h .within))
 
   pub word-none : (r : Bool) → r ≡ isWord (slice at e t) → r ≡ false → NameOf t at NoWord
   unfolding NameOf Named require
@@ -139,5 +134,10 @@ spaced-some t at r a s k n = nearer t at (at + 1) _ _ a (omega arith) (rw (eat-s
 pub spaced-none : (t : Bytes) (at : ℕ) (r : Bool) → Starts t at (32 ∷ []) r → r ≡ false → SpacedName t at NoWord
 unfolding SpacedName Named spacedWord spaced
 spaced-none t at r s k = rw (eat-not t at 32 r s k)
+
+-- the number of a word that was read has twelve bits
+pub name-small : (t : Bytes) (at : ℕ) (c : Name) (y i : ℕ) → NameOf t at c → c ≡ Word y i → y < 4096
+unfolding NameOf Named
+name-small t at c y i n d = rw d at n .small
 
 pub ruleset laws = (needs, word-is, not-apply, word-room, word-none, word-apply, place-found, place-missing, starts-room, spaced-some, spaced-none)

@@ -24,7 +24,7 @@ use Rattle.parse.specs.declared.Parsed.{Parsed}
 use Rattle.parse.specs.declared.Parsed.the-variants.{Done, Bad}
 use Rattle.parse.specs.Atoms.{Ready}
 use Rattle.parse.specs.Steps.{Place, Read, Took, Reads}
-use Rattle.parse.specs.StepLaws.{sets-append}
+use Rattle.layout.specs.Writes.{sets-append}
 use Rattle.parse.specs.Lines.{lineOf}
 use Rattle.parse.specs.FormLaws.{bind-assoc}
 

@@ -19,7 +19,8 @@ use Rattle.parse.specs.declared.Listed.{Listed}
 use Rattle.parse.specs.declared.Listed.the-variants.{Items, NoItems}
 use Rattle.parse.specs.Atoms.{NameRead, Named, SpacedName}
 use Rattle.parse.specs.Steps.{Read, Took, Reads, ClosedAt, Closed, ListRead, TookList, Lists, PartRead, TookPart, Lasts, Argued, spaceds, readOne, readPair, twos, twoWords, readMid, mids, midWords, readSend, sends, sendWords, argsFrom}
-use Rattle.parse.specs.StepLaws.{sets-append, headed}
+use Rattle.layout.specs.Writes.{sets-append}
+use Rattle.parse.specs.StepLaws.{headed}
 use Rattle.parse.specs.FormLaws.{bind-assoc}
 
 -- ---- the last part itself

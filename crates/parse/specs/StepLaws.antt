@@ -15,6 +15,7 @@ use Rattle.atlite.specs.Lexicon.{Bytes, dictionary}
 use Rattle.atlite.specs.Script.{Src, Srcs}
 use Rattle.atlite.specs.Table.{countSrcs}
 use Rattle.atlite.specs.Reader.{Reading, eat, after, spaced, spacedWord, readArgs, readItems, readExpr}
+use Rattle.layout.specs.Writes.{sets-append}
 use Rattle.words.specs.Wide.{wide, pair, wideSrc, wideSrcs}
 use Rattle.scan.specs.Runs.{Run, Starts}
 use Rattle.parse.specs.declared.Name.{Name}
@@ -28,10 +29,6 @@ use Rattle.parse.specs.NameLaws.{eat-starts, eat-not, starts-room}
 use Rattle.parse.specs.Steps.{Place, Read, Took, Reads, ClosedAt, Closed, ListRead, TookList, Lists, spaceds, exprs, readOne, ones, oneWords, readPair, twos, twoWords, readGet, gets, getWords, readMid, mids, midWords, readSend, sends, sendWords, argsFrom}
 
 -- ---- writes
-pub sets-append : (xs ys l : List ℕ) (i : ℕ) → sets (sets l i xs) (i + length xs) ys ≡ sets l i (xs ++ ys)
-sets-append [] ys l i = rw add-zero
-sets-append (x ∷ xs) ys l i = rw (add-suc, ← suc-add) (sets-append xs ys (set l i x) (suc i))
-
 set-before : (xs l : List ℕ) (i k h : ℕ) → i < k → set (sets l k xs) i h ≡ sets (set l i h) k xs
 set-before [] l i k h p = refl
 set-before (x ∷ xs) l i k h p =

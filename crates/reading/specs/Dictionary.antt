@@ -154,7 +154,7 @@ unfolding wordsFrom
 words-find [] ws w h e = noted-finds ws w h
 words-find (b ∷ j) ws w h e = rw (words-out b j ws w e) (words-keep j (noted ws w) [] w (noted-finds ws w h))
 
-words-run : (v j : Bytes) (ws : List Bytes) (w : Bytes) → all inWord v ≡ true → wordsFrom ws w (v ++ j) ≡ wordsFrom ws (w ++ v) j
+pub words-run : (v j : Bytes) (ws : List Bytes) (w : Bytes) → all inWord v ≡ true → wordsFrom ws w (v ++ j) ≡ wordsFrom ws (w ++ v) j
 unfolding all
 words-run [] j ws w h = ap (λ u. wordsFrom ws u j) (sym (append-nil w))
 words-run (b ∷ v) j ws w h =

@@ -80,11 +80,11 @@ unfolding inWord isLetter isDigit
 ends-closing [] j = refl
 ends-closing (w ∷ ws) j = refl
 
-item-in : (b : ℕ) (i : Bytes) → inWord b ≡ true → item (b ∷ i) ≡ (b ∷ item i .0, item i .1)
+pub item-in : (b : ℕ) (i : Bytes) → inWord b ≡ true → item (b ∷ i) ≡ (b ∷ item i .0, item i .1)
 unfolding item
 item-in b i h = rw (h, item)
 
-item-out : (b : ℕ) (i : Bytes) → inWord b ≡ false → item (b ∷ i) ≡ ([], b ∷ i)
+pub item-out : (b : ℕ) (i : Bytes) → inWord b ≡ false → item (b ∷ i) ≡ ([], b ∷ i)
 unfolding item
 item-out b i h = rw (h, item)
 

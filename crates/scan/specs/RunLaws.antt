@@ -16,6 +16,7 @@ use lib.Seq.{slice, slice-empty, length-take-le, take-suc, drop-cons, drop-appen
 use Rattle.atlite.specs.Base.{Base, if_then_else_}
 use Rattle.atlite.specs.Lexicon.{Bytes, isLetter, isDigit, inWord}
 use Rattle.atlite.specs.Reader.{item, after}
+use Rattle.reading.specs.Items.{item-in, item-out}
 use Rattle.scan.specs.Runs.{Run, Passed, Starts, Begun}
 
 -- ---- bytes
@@ -52,14 +53,6 @@ slice-snoc t at i h k =
 
 pub next : (t : Bytes) (i : ℕ) → i < length t → drop i t ≡ getD t i 0 ∷ drop (i + 1) t
 next t i h = rw add-one (drop-cons t i 0 h)
-
-item-in : (b : ℕ) (i : Bytes) → inWord b ≡ true → item (b ∷ i) ≡ (b ∷ item i .0, item i .1)
-unfolding item
-item-in b i h = rw (h, item)
-
-item-out : (b : ℕ) (i : Bytes) → inWord b ≡ false → item (b ∷ i) ≡ ([], b ∷ i)
-unfolding item
-item-out b i h = rw (h, item)
 
 item-none : (i : Bytes) → i ≡ [] → item i ≡ ([], [])
 unfolding item

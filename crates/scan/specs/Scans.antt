@@ -16,6 +16,7 @@ use Rattle.atlite.specs.Lexicon.{Bytes, inWord, isWord, among, noted, wordsFrom
 use Rattle.atlite.specs.Reader.{item}
 use Rattle.atlite.specs.Facts.{and₂, both₂, or-false, same-true, same-refl, same-false-sym, tests-append}
 use Rattle.reading.specs.Items.{Ends}
+use Rattle.reading.specs.Dictionary.{words-run}
 use Rattle.scan.specs.Runs.{Run, index}
 use Rattle.scan.specs.Keywords.{among-none, among-some, index-le, run-all, slice-drop}
 use Rattle.scan.specs.Codes.{lowPart, highPart, Holds, Placed, Found, Noted, Scanning, Dictionary}
@@ -85,7 +86,7 @@ without-total (u ∷ ws) = go (sameBytes u (bytes "apply")) (among ws (bytes "ap
     go false false e = omega arith
 
 -- ---- the arrays
-word-nonempty : (w : Bytes) → isWord w ≡ true → 0 < length w
+pub word-nonempty : (w : Bytes) → isWord w ≡ true → 0 < length w
 unfolding isWord letterFirst
 word-nonempty [] h = absurd (false≢true h)
 word-nonempty (b ∷ w) h = omega arith
@@ -195,18 +196,6 @@ module _ (w : Bytes) (low high : List ℕ) (n : ℕ) (a : Bool) (l h i : ℕ) (u
   }
 
 -- ---- the text
-words-in : (b : ℕ) (i : Bytes) (ws : List Bytes) (w : Bytes) → inWord b ≡ true
-    → wordsFrom ws w (b ∷ i) ≡ wordsFrom ws (w ++ (b ∷ [])) i
-unfolding wordsFrom if_then_else_
-words-in b i ws w h = rw h
-
-words-run : (v j : Bytes) (ws : List Bytes) (w : Bytes) → all inWord v ≡ true → wordsFrom ws w (v ++ j) ≡ wordsFrom ws (w ++ v) j
-unfolding all
-words-run [] j ws w h = ap (λ u. wordsFrom ws u j) (sym (append-nil w))
-words-run (b ∷ v) j ws w h =
-    let p = and₂ (inWord b) (all inWord v) h in
-    words-in b (v ++ j) ws w (p .0) ∙ words-run v j ws (w ++ (b ∷ [])) (p .1) ∙ ap (λ u. wordsFrom ws u j) (append-assoc w (b ∷ []) v)
-
 -- behind a run the next byte, if there is one, ends it
 words-end : (j : Bytes) (ws : List Bytes) (w : Bytes) → Ends j → wordsFrom ws w j ≡ wordsFrom (noted ws w) [] (drop 1 j)
 unfolding wordsFrom noted isWord letterFirst if_then_else_

@@ -4,10 +4,10 @@
 use mathlib.Core.Path.{_≡_, refl, sym, _∙_}
 use mathlib.Core.List.{List, [], _∷_, _++_}
 use Prim.Native.Nat.{ℕ, suc, _+_, _≤_, _<_}
-use native.Mathlib.Nat.{add-zero, add-suc, suc-add}
 use native.Mathlib.Omega.{arith}
 use lib.ListN.{length, set, length-append}
 use lib.Seq.{sets, set-out}
+use Rattle.layout.specs.Writes.{sets-append}
 
 -- where positions stop
 abbrev pub most : ℕ
@@ -18,10 +18,6 @@ pub record Wrote (old : List ℕ) (o : ℕ) (s : List ℕ) (new : List ℕ) (p :
   pub is : o + length s ≤ most → new ≡ sets old o s
   pub next : o + length s ≤ most → p ≡ o + length s
   pub small : p ≤ most
-
-sets-append : (s t l : List ℕ) (i : ℕ) → sets (sets l i s) (i + length s) t ≡ sets l i (s ++ t)
-sets-append [] t l i = rw add-zero
-sets-append (x ∷ s) t l i = rw (add-suc, ← suc-add) (sets-append s t (set l i x) (suc i))
 
 -- ---- the laws of writing
 module _ (old : List ℕ) (o : ℕ) where
