@@ -21,4 +21,3 @@ pub require-done : (n : ℕ) (b : Bool) → require n b ≡ done tt → b ≡ tr
 unfolding require
 require-done n true e = refl
 require-done n false e = absurd (refused-done e)
-

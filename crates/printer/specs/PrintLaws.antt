@@ -1,12 +1,12 @@
 -- The three ways that printing a table returns. Assumes nothing.
-use mathlib.Core.Path.{_≡_, sym, ap, _∙_, subst as transp}
+use mathlib.Core.Path.{_≡_, refl, sym, ap, _∙_, subst as transp}
 use mathlib.Core.List.{List}
 use Prim.Native.Nat.{ℕ, _≤_, _<_}
 use native.Mathlib.Nat.{zero-add}
 use native.Mathlib.Omega.{arith}
 use borrow.Author.Needs.{needs}
 use lib.ListN.{length, take, drop, getD}
-use lib.Seq.{sets-eq, take-take, length-take-le}
+use lib.Seq.{length-sets, sets-eq, take-take, length-take-le}
 use Rattle.atlite.specs.Table.{Table, IsTable, textOf}
 use Rattle.layout.specs.Tables.{encodeTable}
 use Rattle.layout.specs.TableFitting.{table-fits}
@@ -41,6 +41,7 @@ module _ (w old : List ℕ) where
   printed-many h = record {
     table = λ T i e. absurd (omega (arith, table-count (take 1280 w) T i (published T e), table-fits T i .lineCount));
     fits = no-answer;
+    kept = refl;
   }
 
   module _ (new : List ℕ) (o : ℕ) (p : Wrote old 0 (linesIn (take 1280 w) (getD (take 1280 w) 1 0) (drop 256 (take 1280 w))) new o) where
@@ -52,8 +53,11 @@ module _ (w old : List ℕ) where
     stop T i e = text-is T i e .next ∙ rw zero-add (cap-small (length (textOf T)) (omega (arith, i .text .1)))
 
     module _ (n : ℕ) (l : n ≡ length old) (k : length old ≡ 4096) where
+      same : length new ≡ length old
+      same = ap length (p .is k) ∙ length-sets old 0 (linesIn (take 1280 w) (getD (take 1280 w) 1 0) (drop 256 (take 1280 w)))
+
       pub printed-long : n < o → Printed w old new Bad
-      printed-long h = record { table = λ T i e. absurd (omega (arith, stop T i e, i .text .1)); fits = no-answer }
+      printed-long h = record { table = λ T i e. absurd (omega (arith, stop T i e, i .text .1)); fits = no-answer; kept = same }
 
       pub printed-whole : o ≤ n → Printed w old new (Bytes o)
       printed-whole h = record {
@@ -62,6 +66,7 @@ module _ (w old : List ℕ) where
           text-is T i e .is k ∙ sets-eq (textOf T) old 0 (omega (arith, i .text .1)) ∙ rw zero-add,
         );
         fits = λ m e. let z : o ≡ m = cc in omega arith;
+        kept = same;
       }
 
 pub ruleset laws = (needs, published-count, published-all, published-second, printed-many, printed-long, printed-whole)

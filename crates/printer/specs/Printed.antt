@@ -14,3 +14,4 @@ pub record Printed (t old new : List ℕ) (r : Written) : Type 0 where
   pub table : (T : Table) → IsTable T → take tableWords t ≡ encodeTable T
       → (r ≡ Bytes (length (textOf T))) × (new ≡ textOf T ++ drop (length (textOf T)) old)
   pub fits : (n : ℕ) → r ≡ Bytes n → n ≤ 4096
+  pub kept : length new ≡ length old

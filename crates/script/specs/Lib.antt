@@ -1,3 +1,5 @@
 pub mod Reads
 pub mod Judging
 pub mod Parsing
+pub mod Prints
+pub mod Reprinting

@@ -1,0 +1,22 @@
+use Rattle.script.specs.Reprinting.{laws}
+use Rattle.script.proofs.printing.print_table.Statement.{statement}
+use Rattle.script.proofs.printing.print_table.Tie as tie
+use Rattle.script.proofs.printing.print_table.Reads as reads
+use Rattle.script.proofs.printing.print_table.Lts as lts
+use Rattle.printer.proofs.print_words.Reads as print-words-reads
+use Rattle.script.proofs.printing.print_made.Reads as print-made-reads
+
+pub print-table-spec : {M : Type 1} → statement M
+print-table-spec =
+    tie.close
+    (tie.spec
+    (λ c. search laws)  -- returns 54:9
+    (λ c κs. search laws)  -- print-words-requires 57:9
+    (λ c. search laws)  -- enum-known-w 59:24
+    (λ c. search laws)  -- slice-aggregate-print-made 59:48
+    (λ c κs. search laws)  -- print-made-requires 59:30
+    (λ c. search laws)  -- enum-told 60:25
+    (λ c. search laws)  -- same-length 50:1
+    (λ c. search laws)  -- returns-2 50:1
+    (λ c. search laws)  -- returns-3 50:1
+    )
