@@ -1,10 +1,7 @@
+-- `is_text` meets its contract, by what reading the bytes gives. Assumes nothing.
 use Rattle.script.specs.Reprinting.{laws}
 use Rattle.script.proofs.printing.is_text.Statement.{statement}
 use Rattle.script.proofs.printing.is_text.Tie as tie
-use Rattle.script.proofs.printing.is_text.Reads as reads
-use Rattle.script.proofs.printing.is_text.Lts as lts
-use Rattle.script.proofs.reader.read_text.Reads as read-text-reads
-use Rattle.words.proofs.same_words.Reads as same-words-reads
 
 pub is-text-spec : {M : Type 1} → statement M
 is-text-spec =

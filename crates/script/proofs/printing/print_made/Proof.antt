@@ -1,10 +1,7 @@
+-- `print_made` meets its contract: the bytes are the text of a table, or no table has the words. Assumes nothing.
 use Rattle.script.specs.Prints.{laws}
 use Rattle.script.proofs.printing.print_made.Statement.{statement}
 use Rattle.script.proofs.printing.print_made.Tie as tie
-use Rattle.script.proofs.printing.print_made.Reads as reads
-use Rattle.script.proofs.printing.print_made.Lts as lts
-use Rattle.script.proofs.printing.give.Reads as give-reads
-use Rattle.script.proofs.printing.is_text.Reads as is-text-reads
 
 pub print-made-spec : {M : Type 1} → statement M
 print-made-spec =

@@ -1,11 +1,6 @@
 use Rattle.script.specs.Parsing.{laws}
 use Rattle.script.proofs.reader.grammar.Statement.{statement}
 use Rattle.script.proofs.reader.grammar.Tie as tie
-use Rattle.script.proofs.reader.grammar.Reads as reads
-use Rattle.script.proofs.reader.grammar.Lts as lts
-use Rattle.parse.proofs.parse.Reads as parse-reads
-use Rattle.scan.proofs.scan.Reads as scan-reads
-use Rattle.script.proofs.reader.scopes.Reads as scopes-reads
 
 pub grammar-spec : {M : Type 1} → statement M
 grammar-spec =

@@ -1,8 +1,6 @@
 use Rattle.script.specs.Judging.{laws}
 use Rattle.script.proofs.reader.known.Statement.{statement}
 use Rattle.script.proofs.reader.known.Tie as tie
-use Rattle.script.proofs.reader.known.Reads as reads
-use Rattle.script.proofs.reader.known.Lts as lts
 
 pub known-spec : {M : Type 1} → statement M
 known-spec = tie.close (tie.spec (λ c. search laws)  -- add-result 19:16

@@ -1,12 +1,6 @@
 use Rattle.script.specs.Judging.{laws}
 use Rattle.script.proofs.reader.limits.Statement.{statement}
 use Rattle.script.proofs.reader.limits.Tie as tie
-use Rattle.script.proofs.reader.limits.Reads as reads
-use Rattle.script.proofs.reader.limits.Lts as lts
-use Rattle.checks.proofs.depth.depth.Reads as depth-reads
-use Rattle.checks.proofs.size.size.Reads as size-reads
-use Rattle.checks.proofs.table.write_table.Reads as write-table-reads
-use Rattle.script.proofs.reader.known.Reads as known-reads
 
 pub limits-spec : {M : Type 1} → statement M
 limits-spec =

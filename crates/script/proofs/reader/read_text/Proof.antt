@@ -1,9 +1,6 @@
 use Rattle.script.specs.Parsing.{laws}
 use Rattle.script.proofs.reader.read_text.Statement.{statement}
 use Rattle.script.proofs.reader.read_text.Tie as tie
-use Rattle.script.proofs.reader.read_text.Reads as reads
-use Rattle.script.proofs.reader.read_text.Lts as lts
-use Rattle.script.proofs.reader.grammar.Reads as grammar-reads
 
 pub read-text-spec : {M : Type 1} → statement M
 read-text-spec =

@@ -1,10 +1,6 @@
 use Rattle.script.specs.Judging.{laws}
 use Rattle.script.proofs.reader.scopes.Statement.{statement}
 use Rattle.script.proofs.reader.scopes.Tie as tie
-use Rattle.script.proofs.reader.scopes.Reads as reads
-use Rattle.script.proofs.reader.scopes.Lts as lts
-use Rattle.checks.proofs.bound.bound.Reads as bound-reads
-use Rattle.script.proofs.reader.lists.Reads as lists-reads
 
 pub scopes-spec : {M : Type 1} → statement M
 scopes-spec = tie.close (tie.spec (λ c κs. search laws)  -- bound-requires 92:8
