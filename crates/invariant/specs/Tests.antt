@@ -199,7 +199,7 @@ module _ (σ : State) (a : ℕ) where
 
 -- what an actor may hold
 module _ (σ : State) (a : ℕ) where
-  hold-to : (v : Value) → holdable σ a v ≡ true → MayHold σ a v
+  pub hold-to : (v : Value) → holdable σ a v ≡ true → MayHold σ a v
   unfolding holdable visible
   hold-to null h = tt
   hold-to (num n) h = h
@@ -214,7 +214,7 @@ module _ (σ : State) (a : ℕ) where
       go none e k = absurd (false≢true k)
       go (some o) e k = (o, e, λ i. eqb-true a b (owner (eqb a b) (isIsolate o) k i))
 
-  hold-from : (v : Value) → MayHold σ a v → holdable σ a v ≡ true
+  pub hold-from : (v : Value) → MayHold σ a v → holdable σ a v ≡ true
   unfolding holdable visible
   hold-from null h = refl
   hold-from (num n) h = h

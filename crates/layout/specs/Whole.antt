@@ -19,7 +19,7 @@ use Rattle.layout.specs.Parts.{ActorFits, actor-length, actor-back}
 abbrev pub ByteFits : ℕ → Type 0
 ByteFits b = (1 ≤ b) × (b < 256)
 
-bytes-back : (k : ℕ) (bs : List ℕ) → length bs ≤ k → Each ByteFits bs → bytesIn k (bytesNumber bs) ≡ bs
+pub bytes-back : (k : ℕ) (bs : List ℕ) → length bs ≤ k → Each ByteFits bs → bytesIn k (bytesNumber bs) ≡ bs
 unfolding bytesIn bytesNumber if_then_else_
 bytes-back zero [] l h = refl
 bytes-back zero (b ∷ bs) l h = absurd (omega arith)
@@ -85,23 +85,23 @@ module _ (σ : State) (f : StateFits σ) where
       omega arith
 
   module _ (w : List ℕ) (is : w ≡ encode σ) where
-    count0 : getD w 0 0 ≡ length (σ .actors)
+    pub count0 : getD w 0 0 ≡ length (σ .actors)
     unfolding encode pad
     count0 = ap (λ l. getD l 0 0) is
 
-    count1 : getD w 1 0 ≡ length (σ .words)
+    pub count1 : getD w 1 0 ≡ length (σ .words)
     unfolding encode pad
     count1 = ap (λ l. getD l 1 0) is
 
-    words-at : drop 2 w ≡ flat encodeWord (σ .words) ++ (zeros (256 - length topWords) ++ (pad 12800 (flat encodeActor (σ .actors)) ++ zeros 3328))
+    pub words-at : drop 2 w ≡ flat encodeWord (σ .words) ++ (zeros (256 - length topWords) ++ (pad 12800 (flat encodeActor (σ .actors)) ++ zeros 3328))
     unfolding encode
     words-at = ap (drop 2) (is ∙ pad-front 256 topWords _)
 
-    actors-at : drop 256 w ≡ flat encodeActor (σ .actors) ++ (zeros (12800 - length (flat encodeActor (σ .actors))) ++ zeros 3328)
+    pub actors-at : drop 256 w ≡ flat encodeActor (σ .actors) ++ (zeros (12800 - length (flat encodeActor (σ .actors))) ++ zeros 3328)
     unfolding encode
     actors-at = ap (drop 256) is ∙ drop-pad 256 topWords _ head-words ∙ pad-front 12800 (flat encodeActor (σ .actors)) (zeros 3328)
 
-    words-are : cut decodeWord 3 (getD w 1 0) (drop 2 w) ≡ σ .words
+    pub words-are : cut decodeWord 3 (getD w 1 0) (drop 2 w) ≡ σ .words
     words-are = ap₂ (cut decodeWord 3) count1 words-at ∙ cut-flat encodeWord decodeWord 3 (σ .words) _ (words-cut (σ .words) (f .wordsFit))
 
     actors-are : cut decodeActor 3200 (getD w 0 0) (drop 256 w) ≡ σ .actors

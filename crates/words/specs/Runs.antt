@@ -1,16 +1,18 @@
--- Two runs of words compared, and one run of bytes copied: what the two functions promise, and what a turn of their loops keeps.
--- Assumes nothing.
+-- Two runs of words compared, one compared with zeros, and one run of bytes copied: what the functions promise, and what a turn of
+-- their loops keeps. Assumes nothing.
 use mathlib.Core.Path.{_≡_, refl, sym, ap, ap₂, _∙_, subst as transp}
 use mathlib.Core.Bool.{Bool, true, false, false≢true}
 use mathlib.Core.List.{List, [], _∷_, _++_, append-assoc}
-use Prim.Native.Nat.{ℕ, suc, _+_, _≤_, _<_}
+use Prim.Native.Nat.{ℕ, zero, suc, _+_, _≤_, _<_}
 use native.Mathlib.Numerals.{add-one}
 use native.Mathlib.Omega.{arith}
 use borrow.Author.Needs.{needs}
 use borrow.Author.Tests.{eqb-true, eqb-false}
 use lib.Dec.{eqb}
 use lib.ListN.{length, take, drop, getD, set}
-use lib.Seq.{take-suc, drop-cons, take-take, getD-take, set-at, length-take-le}
+use Rattle.layout.specs.Pack.{zeros}
+use Rattle.layout.specs.PackLaws.{length-zeros}
+use lib.Seq.{take-suc, drop-cons, take-take, getD-take, set-at, length-take-le, take-length, take-all}
 
 -- r tells whether the lists are equal
 pub record Same (a b : List ℕ) (r : Bool) : Type 0 where
@@ -70,6 +72,31 @@ module _ (a b : List ℕ) where
   pub same-end : (i n : ℕ) (r : Bool) → n ≤ i → i ≤ n → Same (take i a) (take i b) r → Same (take n a) (take n b) r
   same-end i n r h k s = let z : i ≡ n = omega arith in transp (λ m. Same (take m a) (take m b) r) z s
 
+-- ---- zeros
+zero-in : (i n : ℕ) → getD (zeros n) i 0 ≡ 0
+unfolding zeros
+zero-in i zero = refl
+zero-in zero (suc n) = refl
+zero-in (suc i) (suc n) = zero-in i n
+
+module _ (w : List ℕ) where
+  abbrev Zero : ℕ → Bool → Type 0
+  Zero i r = Same (take i w) (take i (zeros (length w))) r
+
+  pub zero-start : Zero 0 true
+  zero-start = same-start w (zeros (length w))
+
+  pub zero-more : (i : ℕ) (r q : Bool) → i < length w → Zero i r → Still r (getD w i 0) 0 q → Zero (i + 1) q
+  zero-more i r q l s t =
+      let z = length-zeros (length w) in
+      same-more w (zeros (length w)) i (length w) r l (omega arith) (omega arith) s q (rw (zero-in i (length w)) t)
+
+  pub zero-end : (i : ℕ) (r : Bool) → length w ≤ i → i ≤ length w → Zero i r → Same w (zeros (length w)) r
+  zero-end i r h k s =
+      let z : i ≡ length w = omega arith in
+      let l = length-zeros (length w) in
+      rw (z, take-length w, take-all (length w) (zeros (length w)) (omega arith)) at s
+
 -- ---- copying
 pub copy-start : (from old : List ℕ) → Copied from 0 old old
 unfolding Copied
@@ -87,4 +114,4 @@ copy-more from old new i n l h k c =
 pub copy-end : (from old new : List ℕ) (i n : ℕ) → n ≤ i → i ≤ n → Copied from i old new → Copied from n old new
 copy-end from old new i n h k c = let z : i ≡ n = omega arith in transp (λ m. Copied from m old new) z c
 
-pub ruleset laws = (needs, same-start, same-more, same-end, still-same, still-not, copy-start, copy-more, copy-end)
+pub ruleset laws = (needs, same-start, same-more, same-end, zero-start, zero-more, zero-end, still-same, still-not, copy-start, copy-more, copy-end)

@@ -1,6 +1,7 @@
 // Runs of words and bytes, compared and copied.
 ghost use Prim.Native.Nat.{_≤_};
 ghost use lib.ListN.{length, take};
+ghost use Rattle.layout.specs.Pack.{zeros};
 ghost use Rattle.words.specs.Runs.{Still, Same, Copied};
 
 // One more pair of words.
@@ -25,6 +26,19 @@ pub fn same_words(a: &[u32], b: &[u32], n: usize) -> bool
         i += 1;
     }
     same
+}
+
+// Whether every word of `w` is zero. It looks at all of them, as above.
+pub fn all_zero(w: &[u32]) -> bool
+    ensures { λ r. ⌜ Same (now (w .entry)) (zeros (length (now (w .entry)))) r ⌝ }
+{
+    let mut zero = true;
+    let mut i = 0;
+    while i < w.len() {
+        zero = still(zero, w[i], 0);
+        i += 1;
+    }
+    zero
 }
 
 // Puts the first `n` bytes of `from` in front of `to`.
