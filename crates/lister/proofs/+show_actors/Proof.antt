@@ -1,3 +1,4 @@
+-- `show_actors` meets its contract, by the laws of `ActorLaws`; the actors left fall. Assumes nothing.
 use borrow.Author.Needs.{needs}
 use Rattle.lister.specs.ActorLaws.{laws, actors-more}
 use Prim.Native.Nat.{ℕ, _<_}

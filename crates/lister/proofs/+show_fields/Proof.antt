@@ -1,3 +1,4 @@
+-- `show_fields` meets its contract, by the laws of `SlotLaws`; the fields left fall. Assumes nothing.
 use borrow.Author.Needs.{needs}
 use Rattle.lister.specs.SlotLaws.{laws, fields-more}
 use Prim.Native.Nat.{ℕ, _<_}

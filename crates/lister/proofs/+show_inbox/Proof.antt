@@ -1,3 +1,4 @@
+-- `show_inbox` meets its contract, by the laws of `SlotLaws`; the messages left fall. Assumes nothing.
 use borrow.Author.Needs.{needs}
 use Rattle.lister.specs.SlotLaws.{laws, inbox-more}
 use Prim.Native.Nat.{ℕ, _<_}

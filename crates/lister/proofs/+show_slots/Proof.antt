@@ -1,3 +1,4 @@
+-- `show_slots` meets its contract, by the laws of `SlotLaws`; the slots left fall. Assumes nothing.
 use borrow.Author.Needs.{needs}
 use Rattle.lister.specs.SlotLaws.{laws, slots-more}
 use Prim.Native.Nat.{ℕ, _<_}

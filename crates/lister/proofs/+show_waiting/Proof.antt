@@ -1,3 +1,4 @@
+-- `show_waiting` meets its contract, by the laws of `SlotLaws`; the messages that may be left fall. Assumes nothing.
 use borrow.Author.Needs.{needs}
 use Rattle.lister.specs.SlotLaws.{waiting-full, waiting-end, waiting-none, waiting-other, waiting-more}
 use Prim.Native.Nat.{ℕ, _<_}

@@ -1,10 +1,8 @@
+-- `list_all` meets its contract, by the laws of `ActorLaws`. Assumes nothing.
 use borrow.Author.Needs.{needs}
 use Rattle.lister.specs.ActorLaws.{list-whole}
 use Rattle.lister.proofs.list_all.Statement.{statement}
 use Rattle.lister.proofs.list_all.Tie as tie
-use Rattle.lister.proofs.list_all.Reads as reads
-use Rattle.lister.proofs.list_all.Lts as lts
-use Rattle.lister.proofs.show_actors.Reads as show-actors-reads
 
 pub list-all-spec : {M : Type 1} → statement M
 list-all-spec =

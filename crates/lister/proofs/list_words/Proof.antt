@@ -1,9 +1,7 @@
+-- `list_words` meets its contract, by the laws of `Lists`. Assumes nothing.
 use Rattle.lister.specs.Lists.{laws}
 use Rattle.lister.proofs.list_words.Statement.{statement}
 use Rattle.lister.proofs.list_words.Tie as tie
-use Rattle.lister.proofs.list_words.Reads as reads
-use Rattle.lister.proofs.list_words.Lts as lts
-use Rattle.lister.proofs.list_all.Reads as list-all-reads
 
 pub list-words-spec : {M : Type 1} → statement M
 list-words-spec =

@@ -1,10 +1,8 @@
+-- `put_counts` meets its contract, by the laws of `ActorLaws`. Assumes nothing.
 use borrow.Author.Needs.{needs}
 use Rattle.lister.specs.ActorLaws.{laws}
 use Rattle.lister.proofs.put_counts.Statement.{statement}
 use Rattle.lister.proofs.put_counts.Tie as tie
-use Rattle.lister.proofs.put_counts.Reads as reads
-use Rattle.lister.proofs.put_counts.Lts as lts
-use Rattle.lister.proofs.put_spaced.Reads as put-spaced-reads
 
 pub put-counts-spec : {M : Type 1} → statement M
 put-counts-spec =

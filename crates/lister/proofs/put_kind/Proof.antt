@@ -1,12 +1,10 @@
+-- `put_kind` meets its contract, by the laws of `SlotLaws`. Assumes nothing.
 use borrow.Author.Needs.{needs}
 use Rattle.atlite.specs.Base.{bytes}
 use Rattle.lister.specs.Listed.{kindIn}
 use Rattle.lister.specs.SlotLaws.{kinds}
 use Rattle.lister.proofs.put_kind.Statement.{statement}
 use Rattle.lister.proofs.put_kind.Tie as tie
-use Rattle.lister.proofs.put_kind.Reads as reads
-use Rattle.lister.proofs.put_kind.Lts as lts
-use Rattle.showing.proofs.put_bytes.Reads as put-bytes-reads
 
 pub put-kind-spec : {M : Type 1} → statement M
 unfolding kindIn bytes

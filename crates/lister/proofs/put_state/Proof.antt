@@ -1,13 +1,8 @@
+-- `put_state` meets its contract, by the laws of `SlotLaws`. Assumes nothing.
 use borrow.Author.Needs.{needs}
 use Rattle.lister.specs.SlotLaws.{laws}
 use Rattle.lister.proofs.put_state.Statement.{statement}
 use Rattle.lister.proofs.put_state.Tie as tie
-use Rattle.lister.proofs.put_state.Reads as reads
-use Rattle.lister.proofs.put_state.Lts as lts
-use Rattle.showing.proofs.put.Reads as put-reads
-use Rattle.showing.proofs.put_bytes.Reads as put-bytes-reads
-use Rattle.showing.proofs.put_leaf.Reads as put-leaf-reads
-use Rattle.showing.proofs.put_number.Reads as put-number-reads
 
 pub put-state-spec : {M : Type 1} → statement M
 put-state-spec =

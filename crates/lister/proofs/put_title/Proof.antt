@@ -1,11 +1,8 @@
+-- `put_title` meets its contract, by the laws of `ActorLaws`. Assumes nothing.
 use borrow.Author.Needs.{needs}
 use Rattle.lister.specs.ActorLaws.{laws}
 use Rattle.lister.proofs.put_title.Statement.{statement}
 use Rattle.lister.proofs.put_title.Tie as tie
-use Rattle.lister.proofs.put_title.Reads as reads
-use Rattle.lister.proofs.put_title.Lts as lts
-use Rattle.showing.proofs.put_bytes.Reads as put-bytes-reads
-use Rattle.lister.proofs.put_spaced.Reads as put-spaced-reads
 
 pub put-title-spec : {M : Type 1} → statement M
 put-title-spec =

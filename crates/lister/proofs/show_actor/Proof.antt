@@ -1,12 +1,8 @@
+-- `show_actor` meets its contract, by the laws of `ActorLaws`. Assumes nothing.
 use borrow.Author.Needs.{needs}
 use Rattle.lister.specs.ActorLaws.{actor-whole}
 use Rattle.lister.proofs.show_actor.Statement.{statement}
 use Rattle.lister.proofs.show_actor.Tie as tie
-use Rattle.lister.proofs.show_actor.Reads as reads
-use Rattle.lister.proofs.show_actor.Lts as lts
-use Rattle.lister.proofs.show_entities.Reads as show-entities-reads
-use Rattle.lister.proofs.show_inbox.Reads as show-inbox-reads
-use Rattle.lister.proofs.show_line.Reads as show-line-reads
 
 pub show-actor-spec : {M : Type 1} → statement M
 show-actor-spec =

@@ -1,10 +1,8 @@
+-- `show_entities` meets its contract, by the laws of `ActorLaws`. Assumes nothing.
 use borrow.Author.Needs.{needs}
 use Rattle.lister.specs.ActorLaws.{entities-whole}
 use Rattle.lister.proofs.show_entities.Statement.{statement}
 use Rattle.lister.proofs.show_entities.Tie as tie
-use Rattle.lister.proofs.show_entities.Reads as reads
-use Rattle.lister.proofs.show_entities.Lts as lts
-use Rattle.lister.proofs.show_slots.Reads as show-slots-reads
 
 pub show-entities-spec : {M : Type 1} → statement M
 show-entities-spec =

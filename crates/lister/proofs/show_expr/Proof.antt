@@ -1,12 +1,8 @@
+-- `show_expr` meets its contract, by the laws of `ActorLaws`. Assumes nothing.
 use borrow.Author.Needs.{needs}
 use Rattle.lister.specs.ActorLaws.{laws}
 use Rattle.lister.proofs.show_expr.Statement.{statement}
 use Rattle.lister.proofs.show_expr.Tie as tie
-use Rattle.lister.proofs.show_expr.Reads as reads
-use Rattle.lister.proofs.show_expr.Lts as lts
-use Rattle.showing.proofs.put.Reads as put-reads
-use Rattle.lister.proofs.put_end.Reads as put-end-reads
-use Rattle.showing.proofs.show.Reads as show-reads
 
 pub show-expr-spec : {M : Type 1} → statement M
 show-expr-spec =

@@ -1,10 +1,8 @@
+-- `show_message` meets its contract, by the laws of `SlotLaws`. Assumes nothing.
 use borrow.Author.Needs.{needs}
 use Rattle.lister.specs.SlotLaws.{laws}
 use Rattle.lister.proofs.show_message.Statement.{statement}
 use Rattle.lister.proofs.show_message.Tie as tie
-use Rattle.lister.proofs.show_message.Reads as reads
-use Rattle.lister.proofs.show_message.Lts as lts
-use Rattle.showing.proofs.show_form.Reads as show-form-reads
 
 pub show-message-spec : {M : Type 1} → statement M
 show-message-spec =

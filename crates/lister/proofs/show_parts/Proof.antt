@@ -1,13 +1,8 @@
+-- `show_parts` meets its contract, by the laws of `SlotLaws`. Assumes nothing.
 use borrow.Author.Needs.{needs}
 use Rattle.lister.specs.SlotLaws.{parts-whole}
 use Rattle.lister.proofs.show_parts.Statement.{statement}
 use Rattle.lister.proofs.show_parts.Tie as tie
-use Rattle.lister.proofs.show_parts.Reads as reads
-use Rattle.lister.proofs.show_parts.Lts as lts
-use Rattle.lister.proofs.put_end.Reads as put-end-reads
-use Rattle.lister.proofs.show_fields.Reads as show-fields-reads
-use Rattle.showing.proofs.show_operands.Reads as show-operands-reads
-use Rattle.lister.proofs.show_waiting.Reads as show-waiting-reads
 
 pub show-parts-spec : {M : Type 1} → statement M
 show-parts-spec =

@@ -1,11 +1,8 @@
+-- `show_slot` meets its contract, by the laws of `SlotLaws`. Assumes nothing.
 use borrow.Author.Needs.{needs}
 use Rattle.lister.specs.SlotLaws.{slot-whole}
 use Rattle.lister.proofs.show_slot.Statement.{statement}
 use Rattle.lister.proofs.show_slot.Tie as tie
-use Rattle.lister.proofs.show_slot.Reads as reads
-use Rattle.lister.proofs.show_slot.Lts as lts
-use Rattle.lister.proofs.put_opening.Reads as put-opening-reads
-use Rattle.lister.proofs.show_parts.Reads as show-parts-reads
 
 pub show-slot-spec : {M : Type 1} → statement M
 show-slot-spec =

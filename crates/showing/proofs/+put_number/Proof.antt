@@ -1,3 +1,4 @@
+-- `put_number` meets its contract, by the laws of `PutLaws`; the number falls. Assumes nothing.
 use borrow.Author.Needs.{needs}
 use Rattle.showing.specs.PutLaws.{laws}
 use Prim.Native.Nat.{ℕ, _<_}

@@ -1,3 +1,4 @@
+-- `show`, `show_form` and `show_operands` meet their contracts, by the laws of `ShowLaws`; the fuel falls, and where it stays the rank or the operands left. Assumes nothing.
 use borrow.Author.Needs.{needs}
 use Rattle.showing.specs.ShowLaws.{laws, node-form, form-whole, operands-more}
 use Prim.Native.Nat.{ℕ, _+_, _*_, _<_}

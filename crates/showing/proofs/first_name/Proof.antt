@@ -1,9 +1,8 @@
+-- `first_name` meets its contract, by the laws of `HeadLaws`. Assumes nothing.
 use borrow.Author.Needs.{needs}
 use Rattle.showing.specs.HeadLaws.{laws}
 use Rattle.showing.proofs.first_name.Statement.{statement}
 use Rattle.showing.proofs.first_name.Tie as tie
-use Rattle.showing.proofs.first_name.Reads as reads
-use Rattle.showing.proofs.first_name.Lts as lts
 
 pub first-name-spec : {M : Type 1} → statement M
 first-name-spec =

@@ -1,9 +1,8 @@
+-- `name_after` meets its contract, by the laws of `HeadLaws`. Assumes nothing.
 use borrow.Author.Needs.{needs}
 use Rattle.showing.specs.HeadLaws.{laws}
 use Rattle.showing.proofs.name_after.Statement.{statement}
 use Rattle.showing.proofs.name_after.Tie as tie
-use Rattle.showing.proofs.name_after.Reads as reads
-use Rattle.showing.proofs.name_after.Lts as lts
 
 pub name-after-spec : {M : Type 1} → statement M
 name-after-spec =

@@ -1,3 +1,4 @@
+-- `put_bytes` meets its contract, by the laws of `PutLaws`; the bytes left fall. Assumes nothing.
 use borrow.Author.Needs.{needs}
 use mathlib.Core.Path.{_≡_}
 use Prim.Native.Nat.{_-_, _≤_}
@@ -6,9 +7,6 @@ use Rattle.showing.specs.Writing.{Wrote}
 use Rattle.showing.specs.PutLaws.{laws}
 use Rattle.showing.proofs.put_bytes.Statement.{statement}
 use Rattle.showing.proofs.put_bytes.Tie as tie
-use Rattle.showing.proofs.put_bytes.Reads as reads
-use Rattle.showing.proofs.put_bytes.Lts as lts
-use Rattle.showing.proofs.put.Reads as put-reads
 
 abbrev Inv-loop : tie.InvT-loop
 Inv-loop s out₀ o p₀ i₀ out p i = Wrote out₀ o (take i s) out p × (i ≤ length s) × (length out ≡ length out₀)

@@ -1,14 +1,8 @@
+-- `put_head` meets its contract, by the laws of `HeadLaws`. Assumes nothing.
 use borrow.Author.Needs.{needs}
 use Rattle.showing.specs.HeadLaws.{head-whole}
 use Rattle.showing.proofs.put_head.Statement.{statement}
 use Rattle.showing.proofs.put_head.Tie as tie
-use Rattle.showing.proofs.put_head.Reads as reads
-use Rattle.showing.proofs.put_head.Lts as lts
-use Rattle.showing.proofs.first_name.Reads as first-name-reads
-use Rattle.showing.proofs.put_name.Reads as put-name-reads
-use Rattle.showing.proofs.put_operator.Reads as put-operator-reads
-use Rattle.showing.proofs.put_params.Reads as put-params-reads
-use Rattle.showing.proofs.second_name.Reads as second-name-reads
 
 pub put-head-spec : {M : Type 1} → statement M
 put-head-spec =

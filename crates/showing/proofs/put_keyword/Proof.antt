@@ -1,12 +1,10 @@
+-- `put_keyword` meets its contract, by the laws of `PutLaws`. Assumes nothing.
 use borrow.Author.Needs.{needs}
 use Rattle.atlite.specs.Base.{bytes}
 use Rattle.showing.specs.Shown.{keyword}
 use Rattle.showing.specs.PutLaws.{keys}
 use Rattle.showing.proofs.put_keyword.Statement.{statement}
 use Rattle.showing.proofs.put_keyword.Tie as tie
-use Rattle.showing.proofs.put_keyword.Reads as reads
-use Rattle.showing.proofs.put_keyword.Lts as lts
-use Rattle.showing.proofs.put_bytes.Reads as put-bytes-reads
 
 pub put-keyword-spec : {M : Type 1} → statement M
 unfolding keyword bytes

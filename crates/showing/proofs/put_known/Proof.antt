@@ -1,12 +1,10 @@
+-- `put_known` meets its contract, by the laws of `PutLaws`. Assumes nothing.
 use borrow.Author.Needs.{needs}
 use Rattle.atlite.specs.Base.{bytes}
 use Rattle.showing.specs.Shown.{knownIn}
 use Rattle.showing.specs.PutLaws.{knowns}
 use Rattle.showing.proofs.put_known.Statement.{statement}
 use Rattle.showing.proofs.put_known.Tie as tie
-use Rattle.showing.proofs.put_known.Reads as reads
-use Rattle.showing.proofs.put_known.Lts as lts
-use Rattle.showing.proofs.put_bytes.Reads as put-bytes-reads
 
 pub put-known-spec : {M : Type 1} → statement M
 unfolding knownIn bytes

@@ -1,13 +1,8 @@
+-- `put_leaf` meets its contract, by the laws of `HeadLaws`. Assumes nothing.
 use borrow.Author.Needs.{needs}
 use Rattle.showing.specs.HeadLaws.{laws}
 use Rattle.showing.proofs.put_leaf.Statement.{statement}
 use Rattle.showing.proofs.put_leaf.Tie as tie
-use Rattle.showing.proofs.put_leaf.Reads as reads
-use Rattle.showing.proofs.put_leaf.Lts as lts
-use Rattle.showing.proofs.put_bytes.Reads as put-bytes-reads
-use Rattle.showing.proofs.put_number.Reads as put-number-reads
-use Rattle.showing.proofs.put_ref.Reads as put-ref-reads
-use Rattle.showing.proofs.put_word.Reads as put-word-reads
 
 pub put-leaf-spec : {M : Type 1} → statement M
 put-leaf-spec =

@@ -1,10 +1,8 @@
+-- `put_letters` meets its contract, by the laws of `PutLaws`. Assumes nothing.
 use borrow.Author.Needs.{needs}
 use Rattle.showing.specs.PutLaws.{laws}
 use Rattle.showing.proofs.put_letters.Statement.{statement}
 use Rattle.showing.proofs.put_letters.Tie as tie
-use Rattle.showing.proofs.put_letters.Reads as reads
-use Rattle.showing.proofs.put_letters.Lts as lts
-use Rattle.showing.proofs.put_letter.Reads as put-letter-reads
 
 pub put-letters-spec : {M : Type 1} → statement M
 put-letters-spec =

@@ -1,11 +1,8 @@
+-- `put_name` meets its contract, by the laws of `PutLaws`. Assumes nothing.
 use borrow.Author.Needs.{needs}
 use Rattle.showing.specs.PutLaws.{laws}
 use Rattle.showing.proofs.put_name.Statement.{statement}
 use Rattle.showing.proofs.put_name.Tie as tie
-use Rattle.showing.proofs.put_name.Reads as reads
-use Rattle.showing.proofs.put_name.Lts as lts
-use Rattle.showing.proofs.put.Reads as put-reads
-use Rattle.showing.proofs.put_tagged.Reads as put-tagged-reads
 
 pub put-name-spec : {M : Type 1} → statement M
 put-name-spec = tie.close (tie.spec (λ c. search laws)  -- returns

@@ -1,11 +1,8 @@
+-- `put_open` meets its contract, by the laws of `HeadLaws`. Assumes nothing.
 use borrow.Author.Needs.{needs}
 use Rattle.showing.specs.HeadLaws.{laws}
 use Rattle.showing.proofs.put_open.Statement.{statement}
 use Rattle.showing.proofs.put_open.Tie as tie
-use Rattle.showing.proofs.put_open.Reads as reads
-use Rattle.showing.proofs.put_open.Lts as lts
-use Rattle.showing.proofs.put_bytes.Reads as put-bytes-reads
-use Rattle.showing.proofs.put_word.Reads as put-word-reads
 
 pub put-open-spec : {M : Type 1} → statement M
 put-open-spec =

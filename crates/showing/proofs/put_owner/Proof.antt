@@ -1,11 +1,8 @@
+-- `put_owner` meets its contract, by the laws of `HeadLaws`. Assumes nothing.
 use borrow.Author.Needs.{needs}
 use Rattle.showing.specs.HeadLaws.{laws}
 use Rattle.showing.proofs.put_owner.Statement.{statement}
 use Rattle.showing.proofs.put_owner.Tie as tie
-use Rattle.showing.proofs.put_owner.Reads as reads
-use Rattle.showing.proofs.put_owner.Lts as lts
-use Rattle.showing.proofs.put_bytes.Reads as put-bytes-reads
-use Rattle.showing.proofs.put_number.Reads as put-number-reads
 
 pub put-owner-spec : {M : Type 1} → statement M
 put-owner-spec =

@@ -1,10 +1,8 @@
+-- `put_params` meets its contract, by the laws of `HeadLaws`. Assumes nothing.
 use borrow.Author.Needs.{needs}
 use Rattle.showing.specs.HeadLaws.{laws}
 use Rattle.showing.proofs.put_params.Statement.{statement}
 use Rattle.showing.proofs.put_params.Tie as tie
-use Rattle.showing.proofs.put_params.Reads as reads
-use Rattle.showing.proofs.put_params.Lts as lts
-use Rattle.showing.proofs.put_places.Reads as put-places-reads
 
 pub put-params-spec : {M : Type 1} → statement M
 put-params-spec =

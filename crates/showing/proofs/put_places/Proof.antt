@@ -1,12 +1,8 @@
+-- `put_places` meets its contract, by the laws of `HeadLaws`. Assumes nothing.
 use borrow.Author.Needs.{needs}
 use Rattle.showing.specs.HeadLaws.{places-whole}
 use Rattle.showing.proofs.put_places.Statement.{statement}
 use Rattle.showing.proofs.put_places.Tie as tie
-use Rattle.showing.proofs.put_places.Reads as reads
-use Rattle.showing.proofs.put_places.Lts as lts
-use Rattle.showing.proofs.put.Reads as put-reads
-use Rattle.showing.proofs.put_name.Reads as put-name-reads
-use Rattle.showing.proofs.put_open.Reads as put-open-reads
 
 pub put-places-spec : {M : Type 1} → statement M
 put-places-spec =

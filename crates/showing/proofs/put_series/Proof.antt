@@ -1,10 +1,8 @@
+-- `put_series` meets its contract, by the laws of `HeadLaws`. Assumes nothing.
 use borrow.Author.Needs.{needs}
 use Rattle.showing.specs.HeadLaws.{laws}
 use Rattle.showing.proofs.put_series.Statement.{statement}
 use Rattle.showing.proofs.put_series.Tie as tie
-use Rattle.showing.proofs.put_series.Reads as reads
-use Rattle.showing.proofs.put_series.Lts as lts
-use Rattle.showing.proofs.put_bytes.Reads as put-bytes-reads
 
 pub put-series-spec : {M : Type 1} → statement M
 put-series-spec =

@@ -1,11 +1,8 @@
+-- `put_tagged` meets its contract, by the laws of `PutLaws`. Assumes nothing.
 use borrow.Author.Needs.{needs}
 use Rattle.showing.specs.PutLaws.{laws}
 use Rattle.showing.proofs.put_tagged.Statement.{statement}
 use Rattle.showing.proofs.put_tagged.Tie as tie
-use Rattle.showing.proofs.put_tagged.Reads as reads
-use Rattle.showing.proofs.put_tagged.Lts as lts
-use Rattle.showing.proofs.put_bytes.Reads as put-bytes-reads
-use Rattle.showing.proofs.put_word.Reads as put-word-reads
 
 pub put-tagged-spec : {M : Type 1} → statement M
 put-tagged-spec =

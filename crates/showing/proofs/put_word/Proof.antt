@@ -1,11 +1,8 @@
+-- `put_word` meets its contract, by the laws of `PutLaws`. Assumes nothing.
 use borrow.Author.Needs.{needs}
 use Rattle.showing.specs.PutLaws.{laws}
 use Rattle.showing.proofs.put_word.Statement.{statement}
 use Rattle.showing.proofs.put_word.Tie as tie
-use Rattle.showing.proofs.put_word.Reads as reads
-use Rattle.showing.proofs.put_word.Lts as lts
-use Rattle.showing.proofs.put_known.Reads as put-known-reads
-use Rattle.showing.proofs.put_letters.Reads as put-letters-reads
 
 pub put-word-spec : {M : Type 1} → statement M
 put-word-spec =

@@ -1,3 +1,4 @@
+-- `grammar` meets its contract, by the laws of `Parsing`. Assumes nothing.
 use Rattle.script.specs.Parsing.{laws}
 use Rattle.script.proofs.reader.grammar.Statement.{statement}
 use Rattle.script.proofs.reader.grammar.Tie as tie

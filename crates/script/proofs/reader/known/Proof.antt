@@ -1,3 +1,4 @@
+-- `known` meets its contract, by the laws of `Judging`. Assumes nothing.
 use Rattle.script.specs.Judging.{laws}
 use Rattle.script.proofs.reader.known.Statement.{statement}
 use Rattle.script.proofs.reader.known.Tie as tie

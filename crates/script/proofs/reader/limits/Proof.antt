@@ -1,3 +1,4 @@
+-- `limits` meets its contract, by the laws of `Judging`. Assumes nothing.
 use Rattle.script.specs.Judging.{laws}
 use Rattle.script.proofs.reader.limits.Statement.{statement}
 use Rattle.script.proofs.reader.limits.Tie as tie

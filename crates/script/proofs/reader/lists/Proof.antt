@@ -1,3 +1,4 @@
+-- `lists` meets its contract, by the laws of `Judging`. Assumes nothing.
 use Rattle.script.specs.Judging.{laws}
 use Rattle.script.proofs.reader.lists.Statement.{statement}
 use Rattle.script.proofs.reader.lists.Tie as tie

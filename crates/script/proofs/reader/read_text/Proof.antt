@@ -1,3 +1,4 @@
+-- `read_text` meets its contract, by the laws of `Parsing`. Assumes nothing.
 use Rattle.script.specs.Parsing.{laws}
 use Rattle.script.proofs.reader.read_text.Statement.{statement}
 use Rattle.script.proofs.reader.read_text.Tie as tie

@@ -1,3 +1,4 @@
+-- `scopes` meets its contract, by the laws of `Judging`. Assumes nothing.
 use Rattle.script.specs.Judging.{laws}
 use Rattle.script.proofs.reader.scopes.Statement.{statement}
 use Rattle.script.proofs.reader.scopes.Tie as tie
