@@ -26,7 +26,7 @@ use Rattle.layout.specs.ParseSound.{Ended, ended, ended-behind}
 use Rattle.layout.specs.Spans.{Spans, drop-past, drop-next, drop-first, span-none, span-end, span-word, span-join}
 
 -- ---- the arguments and the empty words
-abbrev ValuesAt : List ℕ → ℕ → ℕ → List Value → Type 0
+abbrev pub ValuesAt : List ℕ → ℕ → ℕ → List Value → Type 0
 ValuesAt w c at vs = Each ValueFits vs × (length vs ≡ c) × Spans w at (at + c) (valueWords vs)
 
 both-true : (b c : Bool) → elim b as (λ x. Bool) [ true ↦ c | false ↦ false ] ≡ true → (b ≡ true) × (c ≡ true)
@@ -49,12 +49,12 @@ module _ (w : List ℕ) where
   before-at at c (some v) Option.none l h k = tt
   before-at at c (some v) (some vs) l h k = span-value at c v vs l h k
 
-  values-at : (c at : ℕ) → at + c ≤ length w → Holding (ValuesAt w c at) (valuesAt w c at)
+  pub values-at : (c at : ℕ) → at + c ≤ length w → Holding (ValuesAt w c at) (valuesAt w c at)
   unfolding valuesAt valueWords
   values-at zero at l = (tt, refl, span-end w at at (at + 0) [] (span-none w at) (omega arith))
   values-at (suc c) at l = before-at at c (valueAt (getD w at 0)) (valuesAt w c (at + 1)) (omega arith) (value-word (getD w at 0)) (values-at c (at + 1) (omega arith))
 
-  zeros-at : (c at : ℕ) → at + c ≤ length w → zerosAt w c at ≡ true → Spans w at (at + c) (zeros c)
+  pub zeros-at : (c at : ℕ) → at + c ≤ length w → zerosAt w c at ≡ true → Spans w at (at + c) (zeros c)
   unfolding zerosAt zeros
   zeros-at zero at l e = span-end w at at (at + 0) [] (span-none w at) (omega arith)
   zeros-at (suc c) at l e =
@@ -66,7 +66,7 @@ module _ (w : List ℕ) where
 abbrev pub MessageAt : List ℕ → ℕ → Message → ℕ → Type 0
 MessageAt w at m i = MessageFits m × Spans w at i (encodeMessage m)
 
-ended-sure : {A : Type 0} (R : A → ℕ → Type 0) (b : Bool) (g : Got A) → (b ≡ true → Ended R g) → Ended R (sure b g)
+pub ended-sure : {A : Type 0} (R : A → ℕ → Type 0) (b : Bool) (g : Got A) → (b ≡ true → Ended R g) → Ended R (sure b g)
 ended-sure R true g h = h refl
 ended-sure R false g h = tt
 
@@ -117,13 +117,13 @@ pub message-sound : (w : List ℕ) (at : ℕ) (m : Message) (i : ℕ) → parseM
 message-sound w at m i = ended (MessageAt w at) (parseMessage w at) m i (message-ended w at)
 
 -- ---- and what stands there is got
-values-read : (vs : List Value) (w : List ℕ) (at : ℕ) (r : List ℕ) → Each ValueFits vs → drop at w ≡ valueWords vs ++ r → valuesAt w (length vs) at ≡ some vs
+pub values-read : (vs : List Value) (w : List ℕ) (at : ℕ) (r : List ℕ) → Each ValueFits vs → drop at w ≡ valueWords vs ++ r → valuesAt w (length vs) at ≡ some vs
 unfolding valuesAt valueWords
 values-read [] w at r h e = refl
 values-read (v ∷ vs) w at r h e =
     ap₂ before (ap valueAt (drop-first w at (encodeValue v) (valueWords vs ++ r) e) ∙ value-read v (h .0)) (values-read vs w (at + 1) r (h .1) (drop-next w at (encodeValue v) (valueWords vs ++ r) e))
 
-zeros-read : (c : ℕ) (w : List ℕ) (at : ℕ) (r : List ℕ) → drop at w ≡ zeros c ++ r → zerosAt w c at ≡ true
+pub zeros-read : (c : ℕ) (w : List ℕ) (at : ℕ) (r : List ℕ) → drop at w ≡ zeros c ++ r → zerosAt w c at ≡ true
 unfolding zerosAt zeros
 zeros-read zero w at r e = refl
 zeros-read (suc c) w at r e =

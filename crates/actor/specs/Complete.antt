@@ -1,0 +1,223 @@
+-- Of an actor's part the tests are true: region by region, from the words of the actor. Assumes nothing.
+use Prim.Native.Nat.{ℕ, zero, suc, _+_, _-_, _*_, _≤_, _<_}
+use mathlib.Core.Path.{_≡_, refl, sym, ap, ap₂, _∙_}
+use mathlib.Core.Bool.{Bool, true, _&&_}
+use mathlib.Core.List.{List, [], _∷_, _++_, append-nil}
+use native.Mathlib.Omega.{arith}
+use borrow.Author.Tests.{eq-eqb, le-leb}
+use lib.Dec.{eqb, leb}
+use lib.ListN.{length, take, drop, getD, length-append}
+use lib.Seq.{slice}
+use Rattle.atlite.specs.Base.{sum}
+use Rattle.atlite.specs.Term.{Value, nodes}
+use Rattle.atlite.specs.State.{Message, O, I, Entity, Actor, isIsolate}
+use Rattle.atlite.specs.Limits.{bodyNodes, full, withinActor}
+use Rattle.atlite.specs.Valid.{IsEntity, IsActor}
+use Rattle.atlite.specs.Facts.{both₂, both₃, both₄}
+use Rattle.invariant.specs.TermTests.{Is}
+use Rattle.layout.specs.Pack.{zeros, pad, flat}
+use Rattle.layout.specs.PackLaws.{pad-front}
+use Rattle.layout.specs.Terms.{encodeTerm}
+use Rattle.layout.specs.Layout.{encodeMessage, slots, bodies, queues, encodeActor}
+use Rattle.layout.specs.Slots.{slots-length, queues-fit}
+use Rattle.layout.specs.Parts.{ActorFits, messages-length, r0, r1, r2, r3, r4, r5, r6, RegionsFit, counts, regions, at16, at528, at624, at720, at976, at1104}
+use Rattle.layout.specs.Holds.{WithinActor, within-to}
+use Rattle.layout.specs.Arity.{nodesIn, nodes-append, term-nodes}
+use Rattle.layout.specs.Parse.{zerosAt}
+use Rattle.layout.specs.Spans.{Spans}
+use Rattle.wellformed.specs.Kinds.{allowed, futureBy}
+use Rattle.actor.specs.Tests.{inboxAt, waitingAt, madeEnd, copiedEnd, slotsEnd, countsHold, headHolds, exprHolds, inboxHolds, waitingHolds, madeReached, copiedReached, madeHolds, copiedHolds, bodiesHold, endHolds, heapHolds, restHolds, partHolds}
+use Rattle.actor.specs.Messages.{inbox-complete, waiting-complete}
+use Rattle.actor.specs.Objects.{Judges}
+use Rattle.actor.specs.Entities.{made-complete, copied-complete}
+use Rattle.actor.specs.Series.{whole-each, span-split, slots-complete}
+use Rattle.actor.specs.Queues.{slots-kind}
+use Rattle.actor.specs.Orders.{Kinds, queues-ordered}
+use Rattle.actor.specs.Regions.{region-complete, span-in, span-front, bodies-nodes, tail-zeros}
+use Rattle.actor.specs.Judges.{IsPart, Ends}
+
+module _ (K : List ℕ) (a W : ℕ) (w : List ℕ) (few : W ≤ 64) (l : a < 128) where
+  abbrev P : Value → Type 0
+  P = Is (allowed K a)
+
+  abbrev E : ℕ → Entity → Type 0
+  E = IsEntity W P (futureBy K) a
+
+  abbrev C : ℕ → Entity → Type 0
+  C n o = (isIsolate o ≡ true) × E n o
+
+  module _ (A : Actor) (is : encodeActor A ≡ w) (within : WithinActor A) (holds : IsActor W P (futureBy K) a A) (fits : ActorFits A) where
+    abbrev x : List ℕ
+    x = encodeTerm (A .expr)
+
+    abbrev xs : List ℕ
+    xs = bodies (A .made) ++ bodies (A .copied)
+
+    whole : w ≡ r0 (counts A fits) x (flat encodeMessage (A .inbox)) (flat encodeMessage (queues (A .made))) (slots 0 (A .made)) (slots 0 (A .copied)) xs
+    unfolding encodeActor
+    whole = sym is
+
+    -- ---- the head
+    word0 : getD w 0 0 ≡ A .moves
+    unfolding pad
+    word0 = ap (λ l. getD l 0 0) whole
+
+    word1 : getD w 1 0 ≡ length (A .made)
+    unfolding pad
+    word1 = ap (λ l. getD l 1 0) whole
+
+    word2 : getD w 2 0 ≡ length (A .copied)
+    unfolding pad
+    word2 = ap (λ l. getD l 2 0) whole
+
+    word3 : getD w 3 0 ≡ length (A .inbox)
+    unfolding pad
+    word3 = ap (λ l. getD l 3 0) whole
+
+    word4 : getD w 4 0 ≡ length (queues (A .made))
+    unfolding pad
+    word4 = ap (λ l. getD l 4 0) whole
+
+    word5 : getD w 5 0 ≡ length x
+    unfolding pad
+    word5 = ap (λ l. getD l 5 0) whole
+
+    head-complete : headHolds w ≡ true
+    unfolding headHolds countsHold
+    head-complete =
+        let z = region-complete w 0 16 (counts A fits) _ whole in
+        both₃ (le-leb (getD w 0 0) 16777215 (omega (arith, word0, fits .movesFit)))
+        (both₂ (both₄ (le-leb (getD w 1 0) 32 (omega (arith, word1, fits .madeCount))) (le-leb (getD w 2 0) 16 (omega (arith, word2, fits .copiedCount)))
+        (le-leb (getD w 3 0) 16 (omega (arith, word3, fits .inboxCount))) (le-leb (getD w 4 0) 16 (omega (arith, word4, fits .waitingCount))))
+        (le-leb (getD w 5 0) 512 (omega (arith, word5, fits .expressionWords))))
+        (z .1)
+
+    -- ---- the expression
+    expr-complete : (e : ℕ) → Ends K a W (take 512 (drop 16 w)) e → exprHolds w e ≡ true
+    unfolding exprHolds
+    expr-complete e j =
+        let R = take 512 (drop 16 w) in
+        let n = length x in
+        let d = at16 (regions A fits) w whole in
+        let z = region-complete w 16 512 x _ d in
+        let s : Spans R 0 n x = span-in w 16 512 x _ (fits .expressionWords) (z .0) in
+        let i : e ≡ n = j .complete (A .expr) n (fits .expression, s) (holds .expr) in
+        let nd : nodesIn (slice 0 n R) ≡ nodes (A .expr) = ap nodesIn (span-front R n x s) ∙ term-nodes (A .expr) (fits .expression) in
+        rw word5 (both₃ (eq-eqb e n i) (le-leb (nodesIn (slice 0 n R)) 256 (omega (arith, within .nodes≤))) (z .1))
+
+    -- ---- messages
+    inbox-part : inboxHolds w K a W ≡ true
+    unfolding inboxHolds
+    inbox-part =
+        let q = flat encodeMessage (A .inbox) in
+        let n = length (A .inbox) in
+        let z = region-complete w 528 96 q _ (at528 (regions A fits) w whole) in
+        let c : length q ≡ 6 * n = messages-length (A .inbox) (fits .inboxFits) ∙ omega arith in
+        let t : zerosAt w (96 - 6 * n) (528 + 6 * n) ≡ true = rw c at (z .1) in
+        rw word3 (both₂ (inbox-complete K a W w l (A .inbox) 528 _ (z .0) (fits .inboxFits) (holds .inbox)) t)
+
+    kinds-are : Kinds K a W w l 0 (A .made)
+    kinds-are j o e =
+        let d = at720 (regions A fits) w whole ∙ pad-front 256 (slots 0 (A .made)) _ in
+        let z : j ≡ 0 + j = omega arith in
+        rw z at (slots-kind w (A .made) 0 720 _ (fits .madeFits) d j o e)
+
+    waiting-part : waitingHolds w K a W ≡ true
+    unfolding waitingHolds
+    waiting-part =
+        let m = queues (A .made) in
+        let q = flat encodeMessage m in
+        let n = length m in
+        let M = length (A .made) in
+        let f = queues-fit 0 (A .made) (fits .madeFits) in
+        let z = region-complete w 624 96 q _ (at624 (regions A fits) w whole) in
+        let c : length q ≡ 6 * n = messages-length m f ∙ omega arith in
+        let t : zerosAt w (96 - 6 * n) (624 + 6 * n) ≡ true = rw c at (z .1) in
+        let o = queues-ordered K a W w l (A .made) 0 0 M (fits .madeFits) (whole-each E (A .made) (holds .made)) kinds-are (omega arith) (omega arith) in
+        rw (word4, word1) (both₂ (waiting-complete K a W w l M m 0 624 _ (omega (arith, fits .madeCount)) (z .0) f o) t)
+
+    -- ---- both series
+    module _ (f g : ℕ → ℕ → ℕ) (jf : Judges K a W w (take 1536 (drop 1104 w)) few O f) (jg : Judges K a W w (take 1536 (drop 1104 w)) few I g) where
+      abbrev B : List ℕ
+      B = take 1536 (drop 1104 w)
+
+      abbrev e : ℕ
+      e = length (bodies (A .made))
+
+      abbrev d : ℕ
+      d = length xs
+
+      at-bodies : drop 1104 w ≡ pad 2096 xs ++ []
+      at-bodies = at1104 (regions A fits) w whole ∙ rest
+        where
+          rest : pad 1536 xs ++ zeros 560 ≡ pad 2096 xs ++ []
+          rest = sym (append-nil (pad 2096 xs) ∙ tail-zeros xs (fits .bodyWords))
+
+      bodies-stand : Spans B 0 d xs
+      bodies-stand = span-in w 1104 1536 xs _ (fits .bodyWords) (region-complete w 1104 2096 xs [] at-bodies .0)
+
+      both-stand : Spans B 0 e (bodies (A .made)) × Spans B e d (bodies (A .copied))
+      both-stand = span-split B 0 e d (bodies (A .made)) (bodies (A .copied)) (omega arith) bodies-stand
+
+      made-at : drop 720 w ≡ slots 0 (A .made) ++ (zeros (256 - length (slots 0 (A .made))) ++ r5 (slots 0 (A .copied)) xs)
+      made-at = region-complete w 720 256 (slots 0 (A .made)) _ (at720 (regions A fits) w whole) .0
+
+      copied-at : drop 976 w ≡ slots 0 (A .copied) ++ (zeros (128 - length (slots 0 (A .copied))) ++ r6 xs)
+      copied-at = region-complete w 976 128 (slots 0 (A .copied)) _ (at976 (regions A fits) w whole) .0
+
+      short : (e ≤ 1536) × (d ≤ 1536)
+      short = (omega (arith, fits .bodyWords, length-append (bodies (A .made)) (bodies (A .copied))), fits .bodyWords)
+
+      made-reached : madeReached w K a W f g ≡ e
+      unfolding madeReached
+      made-reached =
+          ap (λ n. slotsEnd (madeEnd K a W w f g) n 0 720 0) word1
+          ∙ slots-complete w B E (madeEnd K a W w f g) (λ n at b i o h. made-complete K a W w B few f g jf jg n at b i o h) (A .made) 0 720 0 e _ (short .0) made-at (both-stand .0) (fits .madeFits) (whole-each E (A .made) (holds .made))
+
+      copied-reached : copiedReached w K a W f g ≡ d
+      unfolding copiedReached
+      copied-reached =
+          ap₂ (λ n b. slotsEnd (copiedEnd K a W w f g) n 0 976 b) word2 made-reached
+          ∙ slots-complete w B C (copiedEnd K a W w f g) (λ n at b i o h. copied-complete K a W w B few f g jf jg n at b i o (h .0, h .1, h .2, h .3 .1) (h .3 .0)) (A .copied) 0 976 e d _ (short .1) copied-at (both-stand .1) (fits .copiedFits) (whole-each C (A .copied) (holds .copied))
+
+      made-holds : madeHolds w (madeReached w K a W f g) ≡ true
+      unfolding madeHolds
+      made-holds =
+          let m = length (A .made) in
+          let z = region-complete w 720 256 (slots 0 (A .made)) _ (at720 (regions A fits) w whole) in
+          let c : length (slots 0 (A .made)) ≡ 8 * m = slots-length 0 (A .made) (fits .madeFits) ∙ omega arith in
+          let t : zerosAt w (256 - 8 * m) (720 + 8 * m) ≡ true = rw c at (z .1) in
+          rw (word1, made-reached) (both₂ (le-leb e 1536 (short .0)) t)
+
+      copied-holds : copiedHolds w (copiedReached w K a W f g) ≡ true
+      unfolding copiedHolds
+      copied-holds =
+          let m = length (A .copied) in
+          let z = region-complete w 976 128 (slots 0 (A .copied)) _ (at976 (regions A fits) w whole) in
+          let c : length (slots 0 (A .copied)) ≡ 8 * m = slots-length 0 (A .copied) (fits .copiedFits) ∙ omega arith in
+          let t : zerosAt w (128 - 8 * m) (976 + 8 * m) ≡ true = rw c at (z .1) in
+          rw (word2, copied-reached) (both₂ (le-leb d 1536 (short .1)) t)
+
+      bodies-hold : bodiesHold w (copiedReached w K a W f g) ≡ true
+      unfolding bodiesHold
+      bodies-hold =
+          let z = region-complete w 1104 2096 xs [] at-bodies in
+          let n : nodesIn (slice 0 d B) ≡ sum bodyNodes (A .made) + sum bodyNodes (A .copied) =
+          ap nodesIn (span-front B d xs bodies-stand) ∙ nodes-append (bodies (A .made)) (bodies (A .copied)) ∙ ap₂ _+_ (bodies-nodes 0 (A .made) (fits .madeFits)) (bodies-nodes 0 (A .copied) (fits .copiedFits)) in
+          rw copied-reached (both₂ (le-leb (nodesIn (slice 0 d B)) 768 (omega (arith, within .bodies≤))) (z .1))
+
+      heap-complete : heapHolds w K a W f g ≡ true
+      unfolding heapHolds endHolds
+      heap-complete = both₂ made-holds (both₂ copied-holds bodies-hold)
+
+  pub part-complete : (f g : ℕ → ℕ → ℕ) (e : ℕ) → Judges K a W w (take 1536 (drop 1104 w)) few O f → Judges K a W w (take 1536 (drop 1104 w)) few I g → Ends K a W (take 512 (drop 16 w)) e
+      → IsPart K a W w → partHolds w K a W f g e ≡ true
+  unfolding IsPart partHolds restHolds
+  part-complete f g e jf jg je p =
+      let A = p .0 in
+      let is = p .1 in
+      let within = within-to A (p .2) in
+      let holds = p .3 in
+      let fits = p .4 in
+      both₃ (head-complete A is within holds fits) (expr-complete A is within holds fits e je)
+      (both₃ (inbox-part A is within holds fits) (waiting-part A is within holds fits) (heap-complete A is within holds fits f g jf jg))

@@ -1,0 +1,124 @@
+-- What each way through the functions over messages returns. Assumes nothing.
+use Prim.Native.Nat.{ℕ, zero, suc, _+_, _-_, _*_, _≤_, _<_, _/_, _%_}
+use mathlib.Core.Path.{_≡_, refl, sym, ap, _∙_}
+use mathlib.Core.Bool.{Bool, true, false, _&&_}
+use mathlib.Core.List.{List}
+use native.Mathlib.Omega.{arith}
+use borrow.Author.Needs.{needs}
+use borrow.Author.Tests.{eq-eqb, ne-eqb, lt-ltb, le-ltb, le-leb, lt-leb}
+use lib.Dec.{eqb, ltb, leb}
+use lib.ListN.{length, getD}
+use Rattle.atlite.specs.Base.{all}
+use Rattle.layout.specs.Parse.{valueAt, valuesAt, zerosAt}
+use Rattle.wellformed.specs.Kinds.{allowed}
+use Rattle.wellformed.specs.Words.{within, holds, sendIn}
+use Rattle.actor.specs.Tests.{low, arguments, sentAt, arrivedAt, inboxAt, waitsAt, waitingAt}
+
+module _ (K : List ℕ) (a W : ℕ) (w : List ℕ) (at : ℕ) where
+  -- ---- a message but for its receiver
+  pub sent-kind : (getD w at 0 / 16777216 ≡ 14 → ⊥) → false ≡ sentAt K a W w at
+  unfolding sentAt
+  sent-kind h = rw (ne-eqb (getD w at 0 / 16777216) 14 h)
+
+  module _ (k : getD w at 0 / 16777216 ≡ 14) where
+    pub sent-many : 5 ≤ arguments (getD w at 0) → false ≡ sentAt K a W w at
+    unfolding sentAt
+    sent-many h = rw (eq-eqb (getD w at 0 / 16777216) 14 k, le-ltb (arguments (getD w at 0)) 5 h)
+
+    module _ (l : arguments (getD w at 0) < 5) (v : Bool) (e : v ≡ sendIn W (getD w at 0 % 16777216)) where
+      pub sent-name : v ≡ false → false ≡ sentAt K a W w at
+      unfolding sentAt
+      sent-name t = rw (eq-eqb (getD w at 0 / 16777216) 14 k, lt-ltb (arguments (getD w at 0)) 5 l, ← e, t)
+
+      module _ (t : v ≡ true) (u : Bool) (d : u ≡ within (all (allowed K a)) (valuesAt w (arguments (getD w at 0)) (at + 2))) where
+        pub sent-values : u ≡ false → false ≡ sentAt K a W w at
+        unfolding sentAt
+        sent-values s = rw (eq-eqb (getD w at 0 / 16777216) 14 k, lt-ltb (arguments (getD w at 0)) 5 l, ← e, t, ← d, s)
+
+        pub sent-all : u ≡ true → (r : Bool) → r ≡ zerosAt w (4 - arguments (getD w at 0)) (at + 2 + arguments (getD w at 0)) → r ≡ sentAt K a W w at
+        unfolding sentAt
+        sent-all s r h = rw (eq-eqb (getD w at 0 / 16777216) 14 k, lt-ltb (arguments (getD w at 0)) 5 l, ← e, t, ← d, s) h
+
+  -- ---- in the inbox
+  pub arrived-other : (getD w (at + 1) 0 / 131072 ≡ 384 + a → ⊥) → false ≡ arrivedAt K a W w at
+  unfolding arrivedAt
+  arrived-other h = rw (ne-eqb (getD w (at + 1) 0 / 131072) (384 + a) h)
+
+  module _ (o : getD w (at + 1) 0 / 131072 ≡ 384 + a) (v : Bool) (e : v ≡ within (holds true K a) (valueAt (getD w (at + 1) 0))) where
+    pub arrived-value : v ≡ false → false ≡ arrivedAt K a W w at
+    unfolding arrivedAt holds
+    arrived-value t = rw (eq-eqb (getD w (at + 1) 0 / 131072) (384 + a) o, ← e, t)
+
+    pub arrived-all : v ≡ true → (r : Bool) → r ≡ sentAt K a W w at → r ≡ arrivedAt K a W w at
+    unfolding arrivedAt holds
+    arrived-all t r h = rw (eq-eqb (getD w (at + 1) 0 / 131072) (384 + a) o, ← e, t) h
+
+  -- ---- at a future
+  module _ (m lo : ℕ) where
+    abbrev aimed : ℕ
+    aimed = getD w (at + 1) 0 % 65536
+
+    pub waits-other : (getD w (at + 1) 0 / 65536 ≡ 768 + 2 * a → ⊥) → false ≡ waitsAt K a W w m lo at
+    unfolding waitsAt
+    waits-other h = rw (ne-eqb (getD w (at + 1) 0 / 65536) (768 + 2 * a) h)
+
+    module _ (o : getD w (at + 1) 0 / 65536 ≡ 768 + 2 * a) where
+      pub waits-low : getD w (at + 1) 0 % 65536 < lo → false ≡ waitsAt K a W w m lo at
+      unfolding waitsAt
+      waits-low h = rw (eq-eqb (getD w (at + 1) 0 / 65536) (768 + 2 * a) o, lt-leb lo aimed h)
+
+      module _ (l : lo ≤ getD w (at + 1) 0 % 65536) where
+        pub waits-high : m ≤ getD w (at + 1) 0 % 65536 → false ≡ waitsAt K a W w m lo at
+        unfolding waitsAt
+        waits-high h = rw (eq-eqb (getD w (at + 1) 0 / 65536) (768 + 2 * a) o, le-leb lo aimed l, le-ltb aimed m h)
+
+        module _ (i : getD w (at + 1) 0 % 65536 < m) where
+          pub waits-kind : (getD w (720 + 8 * (getD w (at + 1) 0 % 65536)) 0 % 8 ≡ 3 → ⊥) → false ≡ waitsAt K a W w m lo at
+          unfolding waitsAt
+          waits-kind h = rw (eq-eqb (getD w (at + 1) 0 / 65536) (768 + 2 * a) o, le-leb lo aimed l, lt-ltb aimed m i, ne-eqb (getD w (720 + 8 * aimed) 0 % 8) 3 h)
+
+          pub waits-all : getD w (720 + 8 * (getD w (at + 1) 0 % 65536)) 0 % 8 ≡ 3 → (r : Bool) → r ≡ sentAt K a W w at → r ≡ waitsAt K a W w m lo at
+          unfolding waitsAt
+          waits-all h r s = rw (eq-eqb (getD w (at + 1) 0 / 65536) (768 + 2 * a) o, le-leb lo aimed l, lt-ltb aimed m i, eq-eqb (getD w (720 + 8 * aimed) 0 % 8) 3 h) s
+
+  -- ---- lists
+  module _ (n : ℕ) where
+    pub inbox-none : n ≡ 0 → true ≡ inboxAt K a W w n at
+    unfolding inboxAt
+    inbox-none e = rw e
+
+    pub waiting-none : (m lo : ℕ) → n ≡ 0 → true ≡ waitingAt K a W w m n lo at
+    unfolding waitingAt
+    waiting-none m lo e = rw e
+
+    module _ (z : n ≡ 0 → ⊥) (v : Bool) where
+      step-inbox : (k : ℕ) → n ≡ suc k → inboxAt K a W w n at ≡ (arrivedAt K a W w at && inboxAt K a W w k (at + 6))
+      unfolding inboxAt
+      step-inbox k e = rw e
+
+      pub inbox-stop : v ≡ arrivedAt K a W w at → v ≡ false → false ≡ inboxAt K a W w n at
+      inbox-stop e t = rw (step-inbox (n - 1) (omega arith), ← e, t)
+
+      pub inbox-more : v ≡ arrivedAt K a W w at → v ≡ true → (r : Bool) → r ≡ inboxAt K a W w (n - 1) (at + 6) → r ≡ inboxAt K a W w n at
+      inbox-more e t r h = rw (step-inbox (n - 1) (omega arith), ← e, t) h
+
+      module _ (m lo : ℕ) where
+        step-waiting : (k : ℕ) → n ≡ suc k → waitingAt K a W w m n lo at ≡ (waitsAt K a W w m lo at && waitingAt K a W w m k (getD w (at + 1) 0 % 65536) (at + 6))
+        unfolding waitingAt
+        step-waiting k e = rw e
+
+        pub waiting-stop : v ≡ waitsAt K a W w m lo at → v ≡ false → false ≡ waitingAt K a W w m n lo at
+        waiting-stop e t = rw (step-waiting (n - 1) (omega arith), ← e, t)
+
+        pub waiting-more : v ≡ waitsAt K a W w m lo at → v ≡ true → (r : Bool) → r ≡ waitingAt K a W w m (n - 1) (getD w (at + 1) 0 % 65536) (at + 6) → r ≡ waitingAt K a W w m n lo at
+        waiting-more e t r h = rw (step-waiting (n - 1) (omega arith), ← e, t) h
+
+pub ruleset sent-laws = (needs, sent-kind, sent-many, sent-name, sent-values, sent-all)
+
+pub ruleset arrived-laws = (needs, arrived-other, arrived-value, arrived-all)
+
+pub ruleset waits-laws = (needs, waits-other, waits-low, waits-high, waits-kind, waits-all)
+
+pub ruleset inbox-laws = (needs, inbox-none, inbox-stop, inbox-more)
+
+pub ruleset waiting-laws = (needs, waiting-none, waiting-stop, waiting-more)

@@ -1,0 +1,106 @@
+-- Regions of a part: words in front and zeros behind; and what stands in a part of the words stands in the words. Assumes nothing.
+use Prim.Native.Nat.{ℕ, suc, _+_, _-_, _*_, _≤_, _<_}
+use mathlib.Core.Path.{_≡_, refl, sym, ap, ap₂, _∙_}
+use mathlib.Core.Bool.{true}
+use mathlib.Core.List.{List, [], _∷_, _++_, append-assoc, append-nil}
+use native.Mathlib.Omega.{arith}
+use lib.ListN.{length, take, drop, getD, take-append-drop, length-drop, drop-of-length-le}
+use lib.Seq.{slice, take-append-add, drop-append-le, length-take-le, drop-drop, take-at}
+use Rattle.atlite.specs.Base.{sum}
+use Rattle.atlite.specs.State.{Entity}
+use Rattle.atlite.specs.Limits.{bodyNodes}
+use Rattle.atlite.specs.State.{object, future, resolver}
+use Rattle.layout.specs.Pack.{zeros, pad}
+use Rattle.layout.specs.PackLaws.{pad-front}
+use Rattle.layout.specs.Terms.{encodeMethods}
+use Rattle.layout.specs.Layout.{methodsOf, bodies}
+use Rattle.layout.specs.Slots.{EntityFits, EntitiesFit}
+use Rattle.layout.specs.Writes.{zeros-split}
+use Rattle.layout.specs.Arity.{nodesIn, nodes-append, methods-trees}
+use Rattle.layout.specs.Parse.{zerosAt}
+use Rattle.layout.specs.ParseMessages.{zeros-at, zeros-read}
+use Rattle.layout.specs.Spans.{Spans, drop-past, span-of, span-end, span-join}
+use Rattle.actor.specs.Objects.{span-is}
+
+-- ---- zeros behind
+module _ (w : List ℕ) where
+  pub region-sound : (at n k : ℕ) (xs : List ℕ) → at + n ≤ length w → k ≤ n → Spans w at (at + k) xs → zerosAt w (n - k) (at + k) ≡ true → Spans w at (at + n) (pad n xs)
+  unfolding pad
+  region-sound at n k xs l h s z =
+      let c : k ≡ length xs = omega (arith, s .1) in
+      let t : Spans w (at + k) (at + k + (n - k)) (zeros (n - k)) = zeros-at w (n - k) (at + k) (omega arith) z in
+      let j = span-end w at (at + k + (n - k)) (at + n) (xs ++ zeros (n - k)) (span-join w at (at + k) (at + k + (n - k)) xs (zeros (n - k)) s t) (omega arith) in
+      rw (← c) j
+
+  pub region-complete : (at n : ℕ) (xs r : List ℕ) → drop at w ≡ pad n xs ++ r → (drop at w ≡ xs ++ (zeros (n - length xs) ++ r)) × (zerosAt w (n - length xs) (at + length xs) ≡ true)
+  region-complete at n xs r e =
+      let d : drop at w ≡ xs ++ (zeros (n - length xs) ++ r) = e ∙ pad-front n xs r in
+      (d, zeros-read (n - length xs) w (at + length xs) r (drop-past w at xs (zeros (n - length xs) ++ r) d))
+
+  -- the first six words
+  pub six-words : (a b c d e f : ℕ) → 6 ≤ length w → getD w 0 0 ≡ a → getD w 1 0 ≡ b → getD w 2 0 ≡ c → getD w 3 0 ≡ d → getD w 4 0 ≡ e → getD w 5 0 ≡ f → Spans w 0 6 (a ∷ b ∷ c ∷ d ∷ e ∷ f ∷ [])
+  six-words a b c d e f l i j k m n o =
+      span-join w 0 1 6 (a ∷ []) (b ∷ c ∷ d ∷ e ∷ f ∷ []) (span-is w 0 1 a (omega arith) refl i)
+      (span-join w 1 2 6 (b ∷ []) (c ∷ d ∷ e ∷ f ∷ []) (span-is w 1 2 b (omega arith) refl j)
+      (span-join w 2 3 6 (c ∷ []) (d ∷ e ∷ f ∷ []) (span-is w 2 3 c (omega arith) refl k)
+      (span-join w 3 4 6 (d ∷ []) (e ∷ f ∷ []) (span-is w 3 4 d (omega arith) refl m)
+      (span-join w 4 5 6 (e ∷ []) (f ∷ []) (span-is w 4 5 e (omega arith) refl n) (span-is w 5 6 f (omega arith) refl o)))))
+
+  -- the regions are all of the words
+  pub regions-all : (h e i q m c b : List ℕ) → length w ≡ 3200 → Spans w 0 16 h → Spans w 16 528 e → Spans w 528 624 i → Spans w 624 720 q → Spans w 720 976 m → Spans w 976 1104 c → Spans w 1104 3200 b
+      → h ++ (e ++ (i ++ (q ++ (m ++ (c ++ b))))) ≡ w
+  regions-all h e i q m c b l s0 s1 s2 s3 s4 s5 s6 =
+      let t5 = span-join w 976 1104 3200 c b s5 s6 in
+      let t4 = span-join w 720 976 3200 m (c ++ b) s4 t5 in
+      let t3 = span-join w 624 720 3200 q (m ++ (c ++ b)) s3 t4 in
+      let t2 = span-join w 528 624 3200 i (q ++ (m ++ (c ++ b))) s2 t3 in
+      let t1 = span-join w 16 528 3200 e (i ++ (q ++ (m ++ (c ++ b)))) s1 t2 in
+      let x = h ++ (e ++ (i ++ (q ++ (m ++ (c ++ b))))) in
+      let t0 : Spans w 0 3200 x = span-join w 0 16 3200 h (e ++ (i ++ (q ++ (m ++ (c ++ b))))) s0 t1 in
+      let end : length w ≤ 3200 = omega arith in
+      sym (t0 .0 ∙ ap (λ y. x ++ y) (drop-of-length-le w end) ∙ append-nil x)
+
+  -- ---- a part of the words
+  pub span-out : (s n i : ℕ) (xs : List ℕ) → s + n ≤ length w → i ≤ n → Spans (take n (drop s w)) 0 i xs → Spans w s (s + i) xs
+  span-out s n i xs l h k =
+      let T = take n (drop s w) in
+      let D = drop n (drop s w) in
+      let whole : T ++ D ≡ drop s w = take-append-drop n (drop s w) in
+      let len : length T ≡ n = length-take-le n (drop s w) (omega (arith, length-drop s w)) in
+      let last : drop (s + i) w ≡ drop i T ++ D = sym (drop-drop i s w) ∙ ap (drop i) (sym whole) ∙ drop-append-le i T D (omega arith) in
+      let c : i ≡ length xs = omega (arith, k .1) in (
+        sym whole ∙ ap (λ y. y ++ D) (k .0) ∙ append-assoc xs (drop i T) D ∙ ap (λ y. xs ++ y) (sym last),
+        omega arith,
+      )
+
+pub span-in : (w : List ℕ) (s n : ℕ) (xs r : List ℕ) → length xs ≤ n → drop s w ≡ xs ++ r → Spans (take n (drop s w)) 0 (length xs) xs
+span-in w s n xs r l e =
+    let T = take n (drop s w) in
+    let m = n - length xs in
+    let z : n ≡ length xs + m = omega arith in
+    let d : T ≡ xs ++ take m r = ap₂ take z e ∙ take-append-add xs r m in
+    span-end T 0 (0 + length xs) (length xs) xs (span-of T 0 xs (take m r) d) (omega arith)
+
+-- what stands in front
+pub span-front : (B : List ℕ) (i : ℕ) (xs : List ℕ) → Spans B 0 i xs → slice 0 i B ≡ xs
+span-front B i xs h = let c : length xs ≡ i = omega (arith, h .1) in ap (take i) (h .0) ∙ take-at xs (drop i B) i c
+
+-- the bodies and the zeros behind them are one run
+pub tail-zeros : (xs : List ℕ) → length xs ≤ 1536 → pad 2096 xs ≡ pad 1536 xs ++ zeros 560
+unfolding pad
+tail-zeros xs l =
+    let n = 1536 - length xs in
+    let z : 2096 - length xs ≡ n + 560 = omega arith in
+    ap (λ i. xs ++ zeros i) z ∙ ap (λ y. xs ++ y) (zeros-split n 560) ∙ sym (append-assoc xs (zeros n) (zeros 560))
+
+-- ---- nodes
+body-nodes : (n : ℕ) (o : Entity) → EntityFits n o → nodesIn (encodeMethods (methodsOf o)) ≡ bodyNodes o
+unfolding methodsOf bodyNodes encodeMethods nodesIn
+body-nodes n (object t F M) h = methods-trees M (h .2) .count
+body-nodes n (future v q) h = refl
+body-nodes n (resolver k) h = refl
+
+pub bodies-nodes : (n : ℕ) (h : List Entity) → EntitiesFit n h → nodesIn (bodies h) ≡ sum bodyNodes h
+unfolding bodies sum nodesIn
+bodies-nodes n [] f = refl
+bodies-nodes n (o ∷ h) f = nodes-append (encodeMethods (methodsOf o)) (bodies h) ∙ ap₂ _+_ (body-nodes n o (f .0)) (bodies-nodes (suc n) h (f .1))

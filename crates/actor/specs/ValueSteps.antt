@@ -1,0 +1,126 @@
+-- What each way through the functions over zeros, values and names returns. Assumes nothing.
+use Prim.Native.Nat.{ℕ, zero, suc, _+_, _-_, _≤_, _<_, _/_, _%_}
+use mathlib.Core.Path.{_≡_, refl, sym, ap, ap₂, _∙_}
+use mathlib.Core.Bool.{Bool, true, false, false≢true, _&&_, not}
+use mathlib.Core.List.{List, _++_}
+use mathlib.Core.Option.{Option, none, some}
+use native.Mathlib.Omega.{arith}
+use borrow.Author.Needs.{needs}
+use borrow.Author.Tests.{eq-eqb, ne-eqb}
+use lib.Dec.{eqb}
+use lib.ListN.{length, take, drop, getD, take-append-drop, length-drop}
+use lib.Seq.{length-take-le, take-at}
+use Rattle.atlite.specs.Base.{member, all, if_then_else_}
+use Rattle.atlite.specs.Term.{Value}
+use Rattle.atlite.specs.Valid.{isName}
+use Rattle.layout.specs.Pack.{zeros}
+use Rattle.layout.specs.PackLaws.{length-zeros}
+use Rattle.layout.specs.Reading.{namesIn}
+use Rattle.layout.specs.Parse.{valueAt, before, valuesAt, zerosAt}
+use Rattle.layout.specs.ParseMessages.{zeros-at, zeros-read}
+use Rattle.words.specs.Runs.{Same}
+use Rattle.wellformed.specs.Kinds.{allowed}
+use Rattle.wellformed.specs.Words.{within, holds}
+use Rattle.actor.specs.Tests.{namesHold}
+
+-- ---- zeros
+module _ (w : List ℕ) (at n : ℕ) (l : at + n ≤ length w) where
+  abbrev part : List ℕ
+  part = take n (drop at w)
+
+  part-length : length part ≡ n
+  part-length = length-take-le n (drop at w) (omega (arith, length-drop at w))
+
+  -- the words are zeros just where the part is
+  zeros-part : zerosAt w n at ≡ true → part ≡ zeros n
+  zeros-part h =
+      let s = zeros-at w n at l h in
+      ap (take n) (s .0) ∙ take-at (zeros n) (drop (at + n) w) n (length-zeros n)
+
+  part-zeros : part ≡ zeros n → zerosAt w n at ≡ true
+  part-zeros e = zeros-read n w at (drop n (drop at w)) (sym (take-append-drop n (drop at w)) ∙ ap (λ y. y ++ drop n (drop at w)) e)
+
+  pub zeros-return : (r : Bool) → Same (take (at + n - at) (drop at w)) (zeros (length (take (at + n - at) (drop at w)))) r → r ≡ zerosAt w n at
+  zeros-return r s = let z : at + n - at ≡ n = omega arith in go r (zerosAt w n at) refl (rw (z, part-length) at s)
+    where
+      go : (r b : Bool) → zerosAt w n at ≡ b → Same part (zeros n) r → r ≡ b
+      go true b e s = sym (part-zeros (s .sound refl)) ∙ e
+      go false true e s = s .complete (zeros-part e)
+      go false false e s = refl
+
+pub ruleset zeros-laws = (needs, zeros-return)
+
+-- ---- values
+within-before : (p : Value → Bool) (o : Option Value) (l : Option (List Value)) → within (all p) (before o l) ≡ (within p o && within (all p) l)
+unfolding within all
+within-before p none l = refl
+within-before p (some v) none = and-false (p v)
+  where
+    and-false : (b : Bool) → false ≡ (b && false)
+    and-false true = refl
+    and-false false = refl
+within-before p (some v) (some vs) = refl
+
+module _ (K : List ℕ) (a : ℕ) (w : List ℕ) (at n : ℕ) where
+  abbrev held : ℕ → ℕ → Bool
+  held n at = within (all (allowed K a)) (valuesAt w n at)
+
+  pub values-none : n ≡ 0 → true ≡ held n at
+  unfolding within valuesAt all
+  values-none e = rw e
+
+  module _ (z : n ≡ 0 → ⊥) (v : Bool) (e : v ≡ within (holds true K a) (valueAt (getD w at 0))) where
+    step : (m : ℕ) → n ≡ suc m → held n at ≡ (v && held m (at + 1))
+    unfolding valuesAt holds
+    step m k = rw (k, e) (within-before (allowed K a) (valueAt (getD w at 0)) (valuesAt w m (at + 1)))
+
+    pub values-stop : v ≡ false → false ≡ held n at
+    values-stop t = rw (step (n - 1) (omega arith), t)
+
+    pub values-more : v ≡ true → (r : Bool) → r ≡ held (n - 1) (at + 1) → r ≡ held n at
+    values-more t r h = rw (step (n - 1) (omega arith), t) h
+
+pub ruleset values-laws = (needs, values-none, values-stop, values-more)
+
+-- ---- names
+module _ (x n y : ℕ) where
+  pub among-none : n ≡ 0 → false ≡ member y (namesIn n x)
+  unfolding member namesIn
+  among-none e = rw e
+
+  module _ (z : n ≡ 0 → ⊥) where
+    step-among : (m : ℕ) → n ≡ suc m → member y (namesIn n x) ≡ (if eqb y (x % 128) then true else member y (namesIn m (x / 128)))
+    unfolding member namesIn
+    step-among m k = rw k
+
+    pub among-here : y ≡ x % 128 → true ≡ member y (namesIn n x)
+    unfolding if_then_else_
+    among-here e = rw (step-among (n - 1) (omega arith), eq-eqb y (x % 128) e)
+
+    pub among-more : (y ≡ x % 128 → ⊥) → (r : Bool) → r ≡ member y (namesIn (n - 1) (x / 128)) → r ≡ member y (namesIn n x)
+    unfolding if_then_else_
+    among-more e r h = rw (step-among (n - 1) (omega arith), ne-eqb y (x % 128) e) h
+
+pub ruleset among-laws = (needs, among-none, among-here, among-more)
+
+module _ (W x n : ℕ) where
+  pub names-none : n ≡ 0 → eqb x 0 ≡ namesHold W n x
+  unfolding namesHold
+  names-none e = rw e
+
+  module _ (z : n ≡ 0 → ⊥) (v : Bool) (e : v ≡ isName W (x % 128)) where
+    step-names : (m : ℕ) → n ≡ suc m → namesHold W n x ≡ (v && not (member (x % 128) (namesIn m (x / 128))) && namesHold W m (x / 128))
+    unfolding namesHold
+    step-names m k = rw (k, e)
+
+    pub names-other : v ≡ false → false ≡ namesHold W n x
+    names-other t = rw (step-names (n - 1) (omega arith), t)
+
+    module _ (t : v ≡ true) (u : Bool) (d : u ≡ member (x % 128) (namesIn (n - 1) (x / 128))) where
+      pub names-twice : u ≡ true → false ≡ namesHold W n x
+      names-twice s = rw (step-names (n - 1) (omega arith), t, ← d, s)
+
+      pub names-more : u ≡ false → (r : Bool) → r ≡ namesHold W (n - 1) (x / 128) → r ≡ namesHold W n x
+      names-more s r h = rw (step-names (n - 1) (omega arith), t, ← d, s) h
+
+pub ruleset names-laws = (needs, names-none, names-other, names-twice, names-more)

@@ -1,0 +1,106 @@
+// The messages of an inbox, and those that wait at a future. A message is six words: a send's word, the receiver, the arguments and zeros.
+ghost use mathlib.Core.Path.{_≡_};
+ghost use Prim.Native.Nat.{_+_, _*_, _≤_, _<_};
+ghost use lib.ListN.{length};
+ghost use Rattle.actor.specs.Tests.{sentAt, arrivedAt, inboxAt, waitsAt, waitingAt};
+use crate::values;
+
+// Where a word's kind stands.
+const PAYLOAD: u32 = 16777216;
+
+// Whether the message at `at` may be sent, whoever receives it.
+fn sent(w: &[u32], at: usize, a: u32, words: u32, kinds: &[u8; 192]) -> bool
+    requires { ⌜ (at + 6 ≤ length (now w)) × (words ≤ 64) ⌝ }
+    ensures { λ r. ⌜ r ≡ sentAt (now (kinds .entry)) a words (now (w .entry)) at ⌝ }
+{
+    let x = w[at];
+    if x / PAYLOAD != 14 {
+        return false;
+    }
+    let n = (x % PAYLOAD / 128 / 4) as usize;
+    if 5 <= n {
+        return false;
+    }
+    if wellformed::message_name(x, words) {
+        if values::values(w, at + 2, n, a, kinds) {
+            return values::zeros(w, at + 2 + n, 4 - n);
+        }
+        return false;
+    }
+    false
+}
+
+// Whether the message at `at` may stand in the inbox of the actor `a`.
+fn arrived(w: &[u32], at: usize, a: u32, words: u32, kinds: &[u8; 192]) -> bool
+    requires { ⌜ (at + 6 ≤ length (now w)) × (words ≤ 64) × (a < 4) ⌝ }
+    ensures { λ r. ⌜ r ≡ arrivedAt (now (kinds .entry)) a words (now (w .entry)) at ⌝ }
+{
+    let x = w[at + 1];
+    if x / 131072 != 384 + a {
+        return false;
+    }
+    if wellformed::value(x, kinds, a, true) {
+        return sent(w, at, a, words, kinds);
+    }
+    false
+}
+
+// The same of `n` messages.
+pub fn inbox(w: &[u32], at: usize, n: usize, a: u32, words: u32, kinds: &[u8; 192]) -> bool
+    requires { ⌜ (at + 6 * n ≤ length (now w)) × (words ≤ 64) × (a < 4) ⌝ }
+    ensures { λ r. ⌜ r ≡ inboxAt (now (kinds .entry)) a words (now (w .entry)) n at ⌝ }
+{
+    if n == 0 {
+        return true;
+    }
+    if arrived(w, at, a, words, kinds) {
+        return inbox(w, at + 6, n - 1, a, words, kinds);
+    }
+    false
+}
+
+// Whether the message at `at` waits at an open future of the actor `a`, from the number `low` on, of `m` entities.
+fn waits(w: &[u32], at: usize, m: usize, low: usize, a: u32, words: u32, kinds: &[u8; 192]) -> bool
+    requires { ⌜ (at + 6 ≤ length (now w)) × (words ≤ 64) × (a < 4) × (720 + 8 * m ≤ length (now w)) ⌝ }
+    ensures { λ r. ⌜ r ≡ waitsAt (now (kinds .entry)) a words (now (w .entry)) m low at ⌝ }
+{
+    let x = w[at + 1];
+    if x / 65536 != 768 + 2 * a {
+        return false;
+    }
+    let n = (x % 65536) as usize;
+    if n < low {
+        return false;
+    }
+    if m <= n {
+        return false;
+    }
+    if w[720 + 8 * n] % 8 != 3 {
+        return false;
+    }
+    sent(w, at, a, words, kinds)
+}
+
+// The same of `n` messages in order of their futures.
+pub fn waiting(
+    w: &[u32],
+    at: usize,
+    n: usize,
+    m: usize,
+    low: usize,
+    a: u32,
+    words: u32,
+    kinds: &[u8; 192],
+) -> bool
+    requires { ⌜ (at + 6 * n ≤ length (now w)) × (words ≤ 64) × (a < 4) × (720 + 8 * m ≤ length (now w)) ⌝ }
+    ensures { λ r. ⌜ r ≡ waitingAt (now (kinds .entry)) a words (now (w .entry)) m n low at ⌝ }
+{
+    if n == 0 {
+        return true;
+    }
+    if waits(w, at, m, low, a, words, kinds) {
+        let next = (w[at + 1] % 65536) as usize;
+        return waiting(w, at + 6, n - 1, m, next, a, words, kinds);
+    }
+    false
+}

@@ -1,0 +1,51 @@
+-- What 16,384 words have to be so that they are a state, part by part: counts, dictionary and zeros; then each actor's part, judged by
+-- the kinds of all entities. Assumes nothing.
+use Prim.Native.Nat.{ℕ, zero, suc, _+_, _-_, _*_, _≤_, _<_}
+use mathlib.Core.Path.{_≡_}
+use mathlib.Core.Bool.{true}
+use mathlib.Core.List.{List, _++_}
+use lib.ListN.{length, take, drop, getD}
+use mir.Val.{Fits}
+use mir.Syntax.{w32}
+use Rattle.atlite.specs.State.{State}
+use Rattle.atlite.specs.Valid.{IsState}
+use Rattle.layout.specs.Pack.{zeros}
+use Rattle.layout.specs.Layout.{encode}
+use Rattle.dictionary.specs.Entries.{entriesHold}
+use Rattle.actor.specs.Judges.{IsPart}
+use Rattle.kinds.specs.Table.{rows, FewAll}
+
+-- 16,384 words of 32 bits
+pub record Words (w : List ℕ) : Type 0 where
+  pub count : length w ≡ 16384
+  pub small : (i : ℕ) → Fits w32 (getD w i 0)
+
+-- the head, and zeros behind what it says is used
+pub record HeadHolds (w : List ℕ) : Type 0 where
+  pub started : 0 < getD w 0 0
+  pub actors : getD w 0 0 ≤ 4
+  pub words : getD w 1 0 ≤ 64
+  pub dictionary : entriesHold w 2 (getD w 1 0) ≡ true
+  pub spare : take (256 - (2 + 3 * getD w 1 0)) (drop (2 + 3 * getD w 1 0) w) ≡ zeros (256 - (2 + 3 * getD w 1 0))
+  pub rest : drop (256 + 3200 * getD w 0 0) w ≡ zeros (16384 - (256 + 3200 * getD w 0 0))
+
+-- the n parts that p begins with are those of the actors from a on
+unfoldable pub PartsHold : List ℕ → ℕ → ℕ → ℕ → List ℕ → Type 0
+PartsHold K W a zero p = Unit {0}
+PartsHold K W a (suc n) p = IsPart K a W (take 3200 p) × PartsHold K W (suc a) n (drop 3200 p)
+
+-- the table of kinds of the n parts that p begins with
+unfoldable pub kindsFor : ℕ → List ℕ → List ℕ
+kindsFor n p = rows n p ++ zeros (192 - 48 * n)
+
+-- all conditions
+pub record Holds (w : List ℕ) : Type 0 where
+  pub head : HeadHolds w
+  pub few : FewAll (getD w 0 0) (drop 256 w)
+  pub parts : PartsHold (kindsFor (getD w 0 0) (drop 256 w)) (getD w 1 0) 0 (getD w 0 0) (drop 256 w)
+
+-- the words are a state
+pub record AreState (w : List ℕ) : Type 0 where
+  pub state : State
+  pub valid : IsState state
+  pub encoded : encode state ≡ w

@@ -1,0 +1,7 @@
+-- what the calls promise
+pub mod Calls
+-- what is to be decided of words, and that it is whether they are a state
+pub mod Conditions
+pub mod StateLaws
+-- the laws of the test
+pub mod TestLaws

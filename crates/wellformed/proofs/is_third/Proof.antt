@@ -1,0 +1,12 @@
+-- `is_third` meets its contract. Assumes nothing.
+use Rattle.wellformed.specs.HeaderLaws.{place-laws}
+use Rattle.wellformed.proofs.is_third.Statement.{statement}
+use Rattle.wellformed.proofs.is_third.Tie as tie
+
+pub is-third-spec : {M : Type 1} → statement M
+is-third-spec = tie.close (tie.spec (λ c κs. search place-laws)  -- is-variable-requires 294:8
+    (λ c. search place-laws)  -- returns 296:13
+    (λ c. search place-laws)  -- returns-2 299:13
+    (λ c. search place-laws)  -- returns-3 301:9
+    (λ c. search place-laws)  -- returns-4 290:1
+    )

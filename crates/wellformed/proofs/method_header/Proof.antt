@@ -1,0 +1,13 @@
+-- `method_header` meets its contract. Assumes nothing.
+use Rattle.wellformed.specs.HeaderLaws.{method-laws}
+use Rattle.wellformed.proofs.method_header.Statement.{statement}
+use Rattle.wellformed.proofs.method_header.Tie as tie
+
+pub method-header-spec : {M : Type 1} → statement M
+method-header-spec =
+    tie.close (tie.spec (λ c κs. search method-laws)  -- is-fresh-requires 384:12
+    (λ c κs. search method-laws)  -- has-parameters-requires 385:13
+    (λ c. search method-laws)  -- returns 385:13
+    (λ c. search method-laws)  -- returns-2 387:9
+    (λ c. search method-laws)  -- returns-3 379:1
+    )

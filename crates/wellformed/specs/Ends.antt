@@ -1,0 +1,136 @@
+-- What the functions over terms answer: where the term at a position ends, if it passes a test. Assumes nothing.
+--
+-- An answer of 4096 is none: no region of a state has so many words. Terms are read by the reader of positions (crate `layout`, module
+-- `Parse`), with fuel for all words, of which one step takes none (`parse-step`).
+use Prim.Native.Nat.{ℕ, _+_, _/_, _%_, _≤_, _<_}
+use mathlib.Core.Path.{_≡_}
+use mathlib.Core.Bool.{Bool, true, _&&_, not, cond}
+use mathlib.Core.List.{List, [], _∷_, _++_}
+use lib.ListN.{length, getD, set}
+use lib.Dec.{eqb, ltb}
+use Rattle.atlite.specs.Base.{member}
+use Rattle.atlite.specs.Term.{this, Value, Kind, Inits, noField, Methods, noMethod, method, methodNames, seen}
+use Rattle.atlite.specs.Valid.{isName, isVariable, namesWithin, parameters}
+use Rattle.atlite.specs.ValidTest.{held, wellFormed, wellFormedAll, wellFormedMethods}
+use Rattle.layout.specs.Pack.{names}
+use Rattle.layout.specs.PackLaws.{Each}
+use Rattle.layout.specs.Terms.{kindNumber}
+use Rattle.layout.specs.Parse.{Got, none, got, literalHead, headIn, fieldAt, methodAt, formed, parseTerms, parseInits, parseMethods}
+use Rattle.layout.specs.ParseLaws.{parse}
+use Rattle.wellformed.specs.Words.{within, holds}
+
+unfoldable pub endOf : {A : Type 0} → (A → Bool) → Got A → ℕ
+endOf t none = 4096
+endOf t (got a i) = cond (t a) i 4096
+
+-- the methods of an entity, which see their `this` alone
+unfoldable pub methodsHold : ℕ → (Value → Bool) → Methods → Bool
+methodsHold c p ms = namesWithin 4 c (methodNames ms) && wellFormedMethods c p (this ∷ []) ms
+
+-- a position, if the word before it passed
+pub record Behind (o : Bool) (at r : ℕ) : Type 0 where
+  pub is : r ≡ cond o at 4096
+  pub low : at ≤ r
+  pub high : r ≤ 4096
+
+-- ---- scopes
+-- A list has for each word the level at which it is bound, the level being one more in each literal that hides what is around it: the
+-- words in xs are those at the level g. The last place is no word's.
+pub record Scope (F : List ℕ) (g : ℕ) (xs : List ℕ) : Type 0 where
+  pub size : length F ≡ 128
+  pub low : (x : ℕ) → getD F x 0 ≤ g
+  pub right : (x : ℕ) → x < 127 → eqb (getD F x 0) g ≡ member x xs
+
+unfoldable pub Sees : List ℕ → ℕ → ℕ → Bool → Type 0
+Sees F g x r = (xs : List ℕ) → Scope F g xs → r ≡ ltb x 127 && member x xs
+
+-- three names in seven bits each are bound
+unfoldable pub bound : List ℕ → ℕ → ℕ → List ℕ
+bound F g n = set (set (set F (n / 16384 % 128) g) (n / 128 % 128) g) (n % 128) g
+
+pub record Bound (F : List ℕ) (g n : ℕ) (G : List ℕ) (x y z : ℕ) : Type 0 where
+  pub new : G ≡ bound F g n
+  pub third : z ≡ getD F (n / 16384 % 128) 0
+  pub second : y ≡ getD (set F (n / 16384 % 128) g) (n / 128 % 128) 0
+  pub first : x ≡ getD (set (set F (n / 16384 % 128) g) (n / 128 % 128) g) (n % 128) 0
+
+pub record Unbound (F : List ℕ) (n : ℕ) (G : List ℕ) (x y z : ℕ) : Type 0 where
+  pub new : G ≡ set (set (set F (n % 128) x) (n / 128 % 128) y) (n / 16384 % 128) z
+
+-- the level in the parts of a literal with the word h, and whether they may refer
+pub record Opens (g h r : ℕ) : Type 0 where
+  pub near : r ≤ g + 1
+  pub inner : (t : Kind) → h / 16777216 ≡ kindNumber t → (F xs : List ℕ) → Scope F g xs → Scope F r (seen t xs)
+
+unfoldable pub Refers : Bool → ℕ → Bool → Type 0
+Refers refs h r = (t : Kind) → h / 16777216 ≡ kindNumber t → (K : List ℕ) (a : ℕ) → holds r K a ≡ held t (holds refs K a)
+
+-- ---- headers
+-- a name, before others with the names ns
+unfoldable pub fresh : ℕ → List ℕ → ℕ → Bool
+fresh c ns x = isName c x && not (member x ns)
+
+-- The names ns stand in the number N, and n more are to come, of four in all. A name is not 0, which is what an empty place has.
+pub record Met (N n : ℕ) (ns : List ℕ) : Type 0 where
+  pub is : N ≡ names ns
+  pub few : length ns + n ≤ 4
+  pub each : Each (λ x. (0 < x) × (x < 127)) ns
+
+unfoldable pub Fresh : ℕ → ℕ → ℕ → Bool → Type 0
+Fresh c N x r = (n : ℕ) (ns : List ℕ) → 0 < n → Met N n ns → r ≡ fresh c ns x
+
+unfoldable pub FieldHeader : ℕ → ℕ → ℕ → Bool → Type 0
+FieldHeader c N h r = (n : ℕ) (ns : List ℕ) → 0 < n → Met N n ns → r ≡ within (fresh c ns) (fieldAt h)
+
+-- the three places of a method's header
+unfoldable pub two : ℕ → ℕ → ℕ → Bool
+two c x y = isVariable c x && isVariable c y && not (eqb x y)
+
+unfoldable pub third : ℕ → ℕ → ℕ → ℕ → Bool
+third c x y z = isVariable c z && not (eqb x z) && not (eqb y z)
+
+unfoldable pub empty : ℕ → ℕ → Bool
+empty y z = eqb y 127 && eqb z 127
+
+unfoldable pub methodHead : ℕ → List ℕ → ℕ × List ℕ → Bool
+methodHead c ns h = fresh c ns (h .0) && parameters c (h .1)
+
+unfoldable pub MethodHeader : ℕ → ℕ → ℕ → Bool → Type 0
+MethodHeader c N h r = (n : ℕ) (ns : List ℕ) → 0 < n → Met N n ns → r ≡ within (methodHead c ns) (methodAt h)
+
+-- how many terms a call or a send of payload p has, if it has at most seven arguments
+pub record Arguments (p r : ℕ) : Type 0 where
+  pub is : r ≡ 1 + p / 128 / 4 % 8
+  pub few : r ≤ 8
+
+-- ---- fields and methods behind others with the names ns
+unfoldable pub fieldsWell : ℕ → (Value → Bool) → List ℕ → List ℕ → Inits → Bool
+fieldsWell c p xs ns noField = true
+fieldsWell c p xs ns (Inits.field f e fs) = fresh c ns f && (wellFormed c p xs e && fieldsWell c p xs (f ∷ ns) fs)
+
+unfoldable pub methodsWell : ℕ → (Value → Bool) → List ℕ → List ℕ → Methods → Bool
+methodsWell c p xs ns noMethod = true
+methodsWell c p xs ns (method m ys e ms) = methodHead c ns (m, ys) && (wellFormed c p (ys ++ xs) e && methodsWell c p xs (m ∷ ns) ms)
+
+-- ---- ends: in a state of c words, where p may be held, in the scope of F at the level g and, of a literal's parts, behind the names in N
+module _ (c : ℕ) (p : Value → Bool) (F : List ℕ) (g : ℕ) (w : List ℕ) where
+  unfoldable pub TermEnds : ℕ → ℕ → Type 0
+  TermEnds at r = (xs : List ℕ) → Scope F g xs → r ≡ endOf (wellFormed c p xs) (parse w at)
+
+  unfoldable pub TermsEnd : ℕ → ℕ → ℕ → Type 0
+  TermsEnd n at r = (xs : List ℕ) → Scope F g xs → r ≡ endOf (wellFormedAll c p xs) (parseTerms (length w) w n at)
+
+  unfoldable pub FieldsEnd : ℕ → ℕ → ℕ → ℕ → Type 0
+  FieldsEnd N n at r = (xs ns : List ℕ) → Scope F g xs → Met N n ns → r ≡ endOf (fieldsWell c p xs ns) (parseInits (length w) w n at)
+
+  unfoldable pub MethodsEnd : ℕ → ℕ → ℕ → ℕ → Type 0
+  MethodsEnd N n at r = (xs ns : List ℕ) → Scope F g xs → Met N n ns → r ≡ endOf (methodsWell c p xs ns) (parseMethods (length w) w n at)
+
+  -- what stands behind a word of kind k with payload q
+  unfoldable pub FormEnds : ℕ → ℕ → ℕ → ℕ → Type 0
+  FormEnds k q at r = (xs : List ℕ) → Scope F g xs → r ≡ endOf (wellFormed c p xs) (formed (headIn k q) (λ i. parse w i) w at)
+
+  -- the parts of a literal with the word h
+  unfoldable pub LiteralEnds : ℕ → ℕ → ℕ → Type 0
+  LiteralEnds h at r = (t : Kind) → h / 16777216 ≡ kindNumber t → (xs : List ℕ) → Scope F g xs
+      → r ≡ endOf (wellFormed c p xs) (formed (literalHead t (h % 16777216)) (λ i. parse w i) w at)

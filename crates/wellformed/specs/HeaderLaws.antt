@@ -1,0 +1,359 @@
+-- The laws of the functions that test headers: one for each way to return. Assumes nothing.
+use Prim.Native.Nat.{ℕ, suc, _+_, _*_, _/_, _%_, _≤_, _<_}
+use mathlib.Core.Path.{_≡_, refl, sym, ap, _∙_}
+use mathlib.Core.Bool.{Bool, true, false, _&&_, not, cond, and-true, and-false}
+use mathlib.Core.List.{List, [], _∷_, _++_}
+use mathlib.Core.Option.{Option, none, some}
+use native.Mathlib.Nat.{div-div-eq-div-mul}
+use native.Mathlib.Omega.{arith}
+use borrow.Author.Needs.{needs}
+use borrow.Author.Tests.{lt-ltb, le-ltb, le-leb, lt-leb, eq-eqb, ne-eqb, ltb-true, ltb-false, leb-true}
+use lib.Dec.{eqb, ltb, leb}
+use lib.ListN.{length}
+use Rattle.atlite.specs.Base.{if_then_else_, member, distinct, all}
+use Rattle.atlite.specs.Valid.{isName, isVariable, parameters}
+use Rattle.atlite.specs.Facts.{and₂}
+use Rattle.layout.specs.Pack.{names}
+use Rattle.layout.specs.PackLaws.{pack-low, pack-high, Each}
+use Rattle.layout.specs.Parse.{fieldAt, placesIn, paramsAt, named, methodAt}
+use Rattle.wellformed.specs.Words.{within}
+use Rattle.wellformed.specs.WordLaws.{name-past}
+use Rattle.wellformed.specs.Ends.{fresh, Met, Fresh, FieldHeader, two, third, empty, methodHead, MethodHeader}
+
+-- ---- names
+-- what is no name, or no variable, at all
+pub name-below : (c x : ℕ) → c ≤ 64 → isName c x ≡ true → x < 127
+unfolding isName
+name-below c x l e = omega (arith, ltb-true x (8 + c) (and₂ (leb 7 x) (ltb x (8 + c)) e .1))
+
+pub variable-below : (c x : ℕ) → c ≤ 64 → isVariable c x ≡ true → x < 127
+unfolding isVariable
+variable-below c x l e = omega (arith, ltb-true x (8 + c) (and₂ (ltb 0 x) (ltb x (8 + c)) e .1))
+
+-- ---- names before others
+abbrev freshIn : ℕ → ℕ → Bool
+freshIn N x = cond (eqb x (N % 128)) false (cond (eqb x (N / 128 % 128)) false (cond (eqb x (N / 16384 % 128)) false true))
+
+none-of : (a b d : Bool) → cond a false (cond b false (cond d false true)) ≡ not (if a then true else (if b then true else (if d then true else false)))
+unfolding if_then_else_
+none-of true b d = refl
+none-of false true d = refl
+none-of false false true = refl
+none-of false false false = refl
+
+module _ (x a b d : ℕ) (ha : a < 127) (hb : b < 127) (hd : d < 127) where
+  three-names : freshIn (a + 128 * (b + 128 * (d + 128 * 0))) x ≡ not (if eqb x a then true else (if eqb x b then true else (if eqb x d then true else false)))
+  three-names =
+      let m = b + 128 * (d + 128 * 0) in
+      let i : (a + 128 * m) % 128 ≡ a = pack-low 128 a m (omega arith) in
+      let q : (a + 128 * m) / 128 ≡ m = pack-high 128 a m (omega arith) in
+      let j : (a + 128 * m) / 128 % 128 ≡ b = ap (λ k. k % 128) q ∙ pack-low 128 b (d + 128 * 0) (omega arith) in
+      let u : (a + 128 * m) / 128 / 128 ≡ d + 128 * 0 = ap (λ k. k / 128) q ∙ pack-high 128 b (d + 128 * 0) (omega arith) in
+      let v : (a + 128 * m) / 16384 ≡ (a + 128 * m) / 128 / 128 = sym (div-div-eq-div-mul (a + 128 * m) 128 128) in
+      let k : (a + 128 * m) / 16384 % 128 ≡ d = ap (λ k. k % 128) (v ∙ u) ∙ pack-low 128 d 0 (omega arith) in
+      rw (i, j, k) (none-of (eqb x a) (eqb x b) (eqb x d))
+
+fresh-names : (x : ℕ) (ns : List ℕ) → 0 < x → length ns ≤ 3 → Each (λ y. (0 < y) × (y < 127)) ns → freshIn (names ns) x ≡ not (member x ns)
+unfolding names member if_then_else_
+fresh-names x [] z l h = rw (ne-eqb x 0 (λ e. omega arith))
+fresh-names x (a ∷ []) z l h = three-names x a 0 0 (h .0 .1) (omega arith) (omega arith) ∙ rw (ne-eqb x 0 (λ e. omega arith))
+fresh-names x (a ∷ b ∷ []) z l h = three-names x a b 0 (h .0 .1) (h .1 .0 .1) (omega arith) ∙ rw (ne-eqb x 0 (λ e. omega arith))
+fresh-names x (a ∷ b ∷ d ∷ []) z l h = three-names x a b d (h .0 .1) (h .1 .0 .1) (h .1 .1 .0 .1)
+fresh-names x (a ∷ b ∷ d ∷ u ∷ ns) z l h = absurd (omega arith)
+
+module _ (c x N : ℕ) (o : Bool) (e : o ≡ isName c x) where
+  pub fresh-not : o ≡ false → Fresh c N x false
+  unfolding Fresh fresh
+  fresh-not t n ns z m = rw (sym e ∙ t)
+
+  module _ (t : o ≡ true) where
+    by-names : (r : Bool) → freshIn N x ≡ r → Fresh c N x r
+    unfolding Fresh fresh isName
+    by-names r i n ns z m =
+        let v : isName c x ≡ true = sym e ∙ t in
+        let l = leb-true 7 x (and₂ (leb 7 x) (ltb x (8 + c)) v .0) in
+        let k = fresh-names x ns (omega arith) (omega (arith, m .few)) (m .each) in
+        let d : freshIn (names ns) x ≡ r = ap (λ k. freshIn k x) (sym (m .is)) ∙ i in
+        rw (v, ← k, d)
+
+    pub fresh-first : x ≡ N % 128 → Fresh c N x false
+    fresh-first i = by-names false (rw (eq-eqb x (N % 128) i))
+
+    module _ (a : x ≡ N % 128 → ⊥) where
+      pub fresh-second : x ≡ N / 128 % 128 → Fresh c N x false
+      fresh-second i = by-names false (rw (ne-eqb x (N % 128) a, eq-eqb x (N / 128 % 128) i))
+
+      module _ (b : x ≡ N / 128 % 128 → ⊥) where
+        pub fresh-third : x ≡ N / 16384 % 128 → Fresh c N x false
+        fresh-third i = by-names false (rw (ne-eqb x (N % 128) a, ne-eqb x (N / 128 % 128) b, eq-eqb x (N / 16384 % 128) i))
+
+        pub fresh-yes : (x ≡ N / 16384 % 128 → ⊥) → Fresh c N x true
+        fresh-yes d = by-names true (rw (ne-eqb x (N % 128) a, ne-eqb x (N / 128 % 128) b, ne-eqb x (N / 16384 % 128) d))
+
+-- one name more
+few-small : (ns : List ℕ) → length ns ≤ 3 → Each (λ y. (0 < y) × (y < 127)) ns → names ns < 2097152
+unfolding names
+few-small [] l h = omega arith
+few-small (a ∷ []) l h = omega (arith, h .0)
+few-small (a ∷ b ∷ []) l h = omega (arith, h .0, h .1 .0)
+few-small (a ∷ b ∷ d ∷ []) l h = omega (arith, h .0, h .1 .0, h .1 .1 .0)
+few-small (a ∷ b ∷ d ∷ u ∷ ns) l h = absurd (omega arith)
+
+pub met-noted : (c N n x : ℕ) (ns : List ℕ) → c ≤ 64 → fresh c ns x ≡ true → Met N (suc n) ns → Met (x + 128 * (N % 2097152)) n (x ∷ ns)
+unfolding names fresh isName
+met-noted c N n x ns l e m =
+    let v = and₂ (isName c x) (not (member x ns)) e .0 in
+    let k = and₂ (leb 7 x) (ltb x (8 + c)) v in
+    let a = leb-true 7 x (k .0) in
+    let b = ltb-true x (8 + c) (k .1) in
+    let s = few-small ns (omega (arith, m .few)) (m .each) in
+    let d : N % 2097152 ≡ names ns = omega (arith, m .is) in
+    record { is = ap (λ k. x + 128 * k) d; few = omega (arith, m .few); each = ((omega arith, omega arith), m .each) }
+
+pub met-none : (n : ℕ) → n ≤ 4 → Met 0 n []
+unfolding names
+met-none n l = record { is = refl; few = omega arith; each = tt }
+
+-- ---- fields
+module _ (c h N : ℕ) where
+  pub field-other : (h / 16777216 ≡ 128 → ⊥) → FieldHeader c N h false
+  unfolding FieldHeader fieldAt within
+  field-other k n ns z m = rw (ne-eqb (h / 16777216) 128 k)
+
+  pub field-name : (r : Bool) → c ≤ 64 → h / 16777216 ≡ 128 → Fresh c N (h % 16777216) r → FieldHeader c N h r
+  unfolding FieldHeader Fresh fieldAt within fresh
+  field-name r l k i n ns z m = rw k (go (ltb (h % 16777216) 127) refl)
+    where
+      go : (b : Bool) → ltb (h % 16777216) 127 ≡ b → r ≡ within (fresh c ns) (cond b (some (h % 16777216)) none)
+      go true e = i n ns z m
+      go false e = i n ns z m ∙ rw (name-past c l (h % 16777216) (ltb-false (h % 16777216) 127 e))
+
+-- ---- places
+module _ (c x y : ℕ) (o : Bool) (e : o ≡ isVariable c x) where
+  pub two-first : o ≡ false → false ≡ two c x y
+  unfolding two
+  two-first t = rw (sym e ∙ t)
+
+  module _ (t : o ≡ true) (q : Bool) (d : q ≡ isVariable c y) where
+    pub two-second : q ≡ false → false ≡ two c x y
+    unfolding two
+    two-second u = rw (sym e ∙ t, sym d ∙ u)
+
+    pub two-same : q ≡ true → x ≡ y → false ≡ two c x y
+    unfolding two
+    two-same u i = rw (sym e ∙ t, sym d ∙ u, eq-eqb x y i)
+
+    pub two-yes : q ≡ true → (x ≡ y → ⊥) → true ≡ two c x y
+    unfolding two
+    two-yes u i = rw (sym e ∙ t, sym d ∙ u, ne-eqb x y i)
+
+module _ (c x y z : ℕ) (o : Bool) (e : o ≡ isVariable c z) where
+  pub third-not : o ≡ false → false ≡ third c x y z
+  unfolding third
+  third-not t = rw (sym e ∙ t)
+
+  module _ (t : o ≡ true) where
+    pub third-first : x ≡ z → false ≡ third c x y z
+    unfolding third
+    third-first i = rw (sym e ∙ t, eq-eqb x z i)
+
+    pub third-second : (x ≡ z → ⊥) → y ≡ z → false ≡ third c x y z
+    unfolding third
+    third-second i j = rw (sym e ∙ t, ne-eqb x z i, eq-eqb y z j)
+
+    pub third-yes : (x ≡ z → ⊥) → (y ≡ z → ⊥) → true ≡ third c x y z
+    unfolding third
+    third-yes i j = rw (sym e ∙ t, ne-eqb x z i, ne-eqb y z j)
+
+module _ (y z : ℕ) where
+  pub empty-yes : y ≡ 127 → z ≡ 127 → true ≡ empty y z
+  unfolding empty
+  empty-yes e i = rw (e, i)
+
+  pub empty-second : y ≡ 127 → (z ≡ 127 → ⊥) → false ≡ empty y z
+  unfolding empty
+  empty-second e i = rw (e, ne-eqb z 127 i)
+
+  pub empty-first : (y ≡ 127 → ⊥) → false ≡ empty y z
+  unfolding empty
+  empty-first e = rw (ne-eqb y 127 e)
+
+pub small-counts : (p : ℕ) → p % 8 ≤ 4 → leb (p / 8) 4 ≡ leb (p % 8) 4 && leb (p / 8) 4
+small-counts p l = rw (le-leb (p % 8) 4 l)
+
+pub many-fields : (p : ℕ) → 4 < p % 8 → false ≡ leb (p % 8) 4 && leb (p / 8) 4
+many-fields p l = rw (lt-leb (p % 8) 4 l)
+
+pub ruleset place-laws = (needs, two-first, two-second, two-same, two-yes, third-not, third-first, third-second, third-yes, empty-yes, empty-second, empty-first, small-counts, many-fields)
+
+pub ruleset field-laws = (needs, fresh-not, fresh-first, fresh-second, fresh-third, fresh-yes, field-other, field-name)
+
+-- ---- parameters
+module _ (c : ℕ) where
+  variable-past : c ≤ 64 → (x : ℕ) → 127 ≤ x → isVariable c x ≡ false
+  unfolding isVariable
+  variable-past l x h = rw (lt-ltb 0 x (omega arith), le-ltb x (8 + c) (omega arith))
+
+  no-parameter : parameters c [] ≡ true
+  unfolding parameters distinct all
+  no-parameter = refl
+
+  one-parameter : (x : ℕ) → parameters c (x ∷ []) ≡ isVariable c x
+  unfolding parameters distinct member all
+  one-parameter x = and-true (isVariable c x)
+
+  two-parameters : (x y : ℕ) → parameters c (x ∷ y ∷ []) ≡ two c x y
+  unfolding parameters distinct member all two if_then_else_
+  two-parameters x y = go (isVariable c x) (isVariable c y) (eqb x y)
+    where
+      go : (a b e : Bool) → (not (if e then true else false) && true) && (a && (b && true)) ≡ a && b && not e
+      go true true true = refl
+      go true true false = refl
+      go true false true = refl
+      go true false false = refl
+      go false b true = refl
+      go false b false = refl
+
+  three-parameters : (x y z : ℕ) → parameters c (x ∷ y ∷ z ∷ []) ≡ two c x y && third c x y z
+  unfolding parameters distinct member all two third if_then_else_
+  three-parameters x y z = go (isVariable c x) (isVariable c y) (isVariable c z) (eqb x y) (eqb x z) (eqb y z)
+    where
+      go : (a b d e f g : Bool) → (not (if e then true else (if f then true else false)) && (not (if g then true else false) && true)) && (a && (b && (d && true)))
+          ≡ (a && b && not e) && (d && not f && not g)
+      go false b d true f g = refl
+      go false b d false true g = refl
+      go false b d false false true = refl
+      go false b d false false false = refl
+      go true false d true f g = refl
+      go true false d false true g = refl
+      go true false d false false true = refl
+      go true false d false false false = refl
+      go true true d true f g = refl
+      go true true true false true g = refl
+      go true true true false false true = refl
+      go true true true false false false = refl
+      go true true false false true g = refl
+      go true true false false false true = refl
+      go true true false false false false = refl
+
+-- tests before what is there
+module _ {A : Type 0} (t : A → Bool) where
+  pub within-not : (b : Bool) (o : Option A) → within t o ≡ false → within t (cond b o none) ≡ false
+  unfolding within
+  within-not true o h = h
+  within-not false o h = refl
+
+  within-both : (b d : Bool) (l : A) → t l ≡ true → b && d ≡ within t (cond b (cond d (some l) none) none)
+  unfolding within
+  within-both true true l h = sym h
+  within-both true false l h = refl
+  within-both false d l h = refl
+
+module _ (c : ℕ) (l : c ≤ 64) (x y z : ℕ) where
+  places-none : x ≡ 127 → empty y z ≡ within (parameters c) (placesIn 0 x y z)
+  unfolding empty placesIn
+  places-none e = rw e (within-both (parameters c) (eqb y 127) (eqb z 127) [] (no-parameter c))
+
+  places-full : (x ≡ 127 → ⊥) → false ≡ within (parameters c) (placesIn 0 x y z)
+  unfolding placesIn within
+  places-full e = rw (ne-eqb x 127 e)
+
+  places-one : isVariable c x ≡ true → empty y z ≡ within (parameters c) (placesIn 1 x y z)
+  unfolding empty placesIn
+  places-one e = rw (lt-ltb x 127 (variable-below c x l e)) (within-both (parameters c) (eqb y 127) (eqb z 127) (x ∷ []) (one-parameter c x ∙ e))
+
+  places-two : two c x y ≡ true → eqb z 127 ≡ within (parameters c) (placesIn 2 x y z)
+  unfolding placesIn two
+  places-two e =
+      let v = and₂ (isVariable c x && isVariable c y) (not (eqb x y)) e in
+      let u = and₂ (isVariable c x) (isVariable c y) (v .0) in
+      rw (lt-ltb x 127 (variable-below c x l (u .0)), lt-ltb y 127 (variable-below c y l (u .1)))
+      (within-both (parameters c) true (eqb z 127) (x ∷ y ∷ []) (two-parameters c x y ∙ e))
+
+  places-three : two c x y ≡ true → third c x y z ≡ within (parameters c) (placesIn 3 x y z)
+  unfolding placesIn two third within
+  places-three e =
+      let v = and₂ (isVariable c x && isVariable c y) (not (eqb x y)) e in
+      let u = and₂ (isVariable c x) (isVariable c y) (v .0) in
+      rw (lt-ltb x 127 (variable-below c x l (u .0)), lt-ltb y 127 (variable-below c y l (u .1))) (go (ltb z 127) refl)
+    where
+      go : (b : Bool) → ltb z 127 ≡ b → third c x y z ≡ within (parameters c) (cond b (some (x ∷ y ∷ z ∷ [])) none)
+      go true i = sym (three-parameters c x y z ∙ rw e)
+      go false i = rw (variable-past c l z (ltb-false z 127 i))
+
+  not-one : isVariable c x ≡ false → false ≡ within (parameters c) (placesIn 1 x y z)
+  unfolding placesIn within
+  not-one e = sym (within-not _ (ltb x 127) _ (within-not _ (eqb y 127) _ (within-not _ (eqb z 127) (some (x ∷ [])) (one-parameter c x ∙ e))))
+
+  not-two : two c x y ≡ false → false ≡ within (parameters c) (placesIn 2 x y z)
+  unfolding placesIn within
+  not-two e = sym (within-not _ (ltb x 127) _ (within-not _ (ltb y 127) _ (within-not _ (eqb z 127) (some (x ∷ y ∷ [])) (two-parameters c x y ∙ e))))
+
+  not-three : two c x y ≡ false → false ≡ within (parameters c) (placesIn 3 x y z)
+  unfolding placesIn within
+  not-three e = sym (within-not _ (ltb x 127) _ (within-not _ (ltb y 127) _ (within-not _ (ltb z 127) (some (x ∷ y ∷ z ∷ [])) (three-parameters c x y z ∙ rw e))))
+
+module _ (c h : ℕ) (r : Bool) where
+  -- the number of parameters that was found
+  counted : (n : ℕ) → h / 128 % 4 ≡ n → r ≡ within (parameters c) (placesIn n (h / 512 % 128) (h / 65536 % 128) (h / 8388608 % 128)) → r ≡ within (parameters c) (paramsAt h)
+  unfolding paramsAt
+  counted n k i = rw k i
+
+  last-count : (h / 128 % 4 ≡ 0 → ⊥) → (h / 128 % 4 ≡ 1 → ⊥) → (h / 128 % 4 ≡ 2 → ⊥) → h / 128 % 4 ≡ 3
+  last-count i j k = omega arith
+
+  module _ (l : c ≤ 64) where
+    pub params-none : h / 128 % 4 ≡ 0 → h / 512 % 128 ≡ 127 → r ≡ empty (h / 65536 % 128) (h / 8388608 % 128) → r ≡ within (parameters c) (paramsAt h)
+    params-none k e i = counted 0 k (i ∙ places-none c l _ _ _ e)
+
+    pub params-one : (o : Bool) → h / 128 % 4 ≡ 1 → o ≡ isVariable c (h / 512 % 128) → o ≡ true → r ≡ empty (h / 65536 % 128) (h / 8388608 % 128) → r ≡ within (parameters c) (paramsAt h)
+    params-one o k e t i = counted 1 k (i ∙ places-one c l _ _ _ (sym e ∙ t))
+
+    pub params-two : (o : Bool) → h / 128 % 4 ≡ 2 → o ≡ two c (h / 512 % 128) (h / 65536 % 128) → o ≡ true → r ≡ eqb (h / 8388608 % 128) 127 → r ≡ within (parameters c) (paramsAt h)
+    params-two o k e t i = counted 2 k (i ∙ places-two c l _ _ _ (sym e ∙ t))
+
+    pub params-three : (o : Bool) → (h / 128 % 4 ≡ 0 → ⊥) → (h / 128 % 4 ≡ 1 → ⊥) → (h / 128 % 4 ≡ 2 → ⊥) → o ≡ two c (h / 512 % 128) (h / 65536 % 128) → o ≡ true
+        → r ≡ third c (h / 512 % 128) (h / 65536 % 128) (h / 8388608 % 128) → r ≡ within (parameters c) (paramsAt h)
+    params-three o a b d e t i = counted 3 (last-count a b d) (i ∙ places-three c l _ _ _ (sym e ∙ t))
+
+module _ (c h : ℕ) (l : c ≤ 64) where
+  pub params-full : h / 128 % 4 ≡ 0 → (h / 512 % 128 ≡ 127 → ⊥) → false ≡ within (parameters c) (paramsAt h)
+  params-full k e = counted c h false 0 k (places-full c l _ _ _ e)
+
+  pub params-not-one : (o : Bool) → h / 128 % 4 ≡ 1 → o ≡ isVariable c (h / 512 % 128) → o ≡ false → false ≡ within (parameters c) (paramsAt h)
+  params-not-one o k e t = counted c h false 1 k (not-one c l _ _ _ (sym e ∙ t))
+
+  pub params-not-two : (o : Bool) → h / 128 % 4 ≡ 2 → o ≡ two c (h / 512 % 128) (h / 65536 % 128) → o ≡ false → false ≡ within (parameters c) (paramsAt h)
+  params-not-two o k e t = counted c h false 2 k (not-two c l _ _ _ (sym e ∙ t))
+
+  pub params-not-three : (o : Bool) → (h / 128 % 4 ≡ 0 → ⊥) → (h / 128 % 4 ≡ 1 → ⊥) → (h / 128 % 4 ≡ 2 → ⊥) → o ≡ two c (h / 512 % 128) (h / 65536 % 128) → o ≡ false → false ≡ within (parameters c) (paramsAt h)
+  params-not-three o a b d e t = counted c h false 3 (last-count c h false a b d) (not-three c l _ _ _ (sym e ∙ t))
+
+pub ruleset param-laws = (needs, params-none, params-one, params-two, params-three, params-full, params-not-one, params-not-two, params-not-three)
+
+-- ---- methods
+module _ (c h N : ℕ) where
+  head-within : (ns : List ℕ) (m : ℕ) (o : Option (List ℕ)) → within (methodHead c ns) (named m o) ≡ fresh c ns m && within (parameters c) o
+  unfolding within methodHead
+  head-within ns m none = sym (and-false (fresh c ns m))
+  head-within ns m (some xs) = refl
+
+  pub method-other : (h / 1073741824 ≡ 3 → ⊥) → MethodHeader c N h false
+  unfolding MethodHeader methodAt within
+  method-other k n ns z m = rw (ne-eqb (h / 1073741824) 3 k)
+
+  module _ (o : Bool) (k : h / 1073741824 ≡ 3) (e : Fresh c N (h % 128) o) where
+    pub method-taken : o ≡ false → MethodHeader c N h false
+    unfolding MethodHeader Fresh methodAt
+    method-taken t n ns z m =
+        let i : fresh c ns (h % 128) ≡ false = sym (e n ns z m) ∙ t in
+        rw k (sym (within-not (methodHead c ns) (ltb (h % 128) 127) (named (h % 128) (paramsAt h)) (head-within ns (h % 128) (paramsAt h) ∙ rw i)))
+
+    pub method-named : (r : Bool) → c ≤ 64 → o ≡ true → r ≡ within (parameters c) (paramsAt h) → MethodHeader c N h r
+    unfolding MethodHeader Fresh methodAt fresh
+    method-named r l t i n ns z m =
+        let j : fresh c ns (h % 128) ≡ true = sym (e n ns z m) ∙ t in
+        let b = name-below c (h % 128) l (and₂ (isName c (h % 128)) (not (member (h % 128) ns)) j .0) in
+        rw (k, lt-ltb (h % 128) 127 b) (i ∙ sym (head-within ns (h % 128) (paramsAt h) ∙ rw j))
+
+pub ruleset method-laws = (needs, method-other, method-taken, method-named)
