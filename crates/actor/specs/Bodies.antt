@@ -1,22 +1,22 @@
 -- Where methods and an expression end, as the crate `wellformed` answers it, says where they stand. Assumes nothing.
 use Prim.Native.Nat.{ℕ, _≤_}
-use mathlib.Core.Path.{_≡_, refl, ap, _∙_}
+use mathlib.Core.Path.{_≡_, refl, ap}
 use mathlib.Core.Bool.{Bool, true, false, cond}
 use mathlib.Core.List.{List, [], _∷_}
 use native.Mathlib.Omega.{arith}
 use lib.ListN.{length}
-use Rattle.atlite.specs.Term.{this, Value, Term, Methods, methodNames}
+use Rattle.atlite.specs.Term.{this, Value, methodNames}
 use Rattle.atlite.specs.State.{Tag, O, I}
-use Rattle.atlite.specs.Valid.{namesWithin, HeldBy, WellFormed, WellFormedMethods, unreferring}
+use Rattle.atlite.specs.Valid.{namesWithin, HeldBy, unreferring}
 use Rattle.atlite.specs.ValidTest.{wellFormed, wellFormedMethods}
 use Rattle.atlite.specs.Facts.{and₂, both₂}
 use Rattle.invariant.specs.TermTests.{Is, wf-to, wf-from, methods-to, methods-from}
 use Rattle.layout.specs.Parse.{Got, none, got, parseMethods}
 use Rattle.layout.specs.ParseLaws.{parse, parse-iff, methods-iff}
-use Rattle.layout.specs.ParseSound.{TermAt, MethodsAt}
 use Rattle.wellformed.specs.Kinds.{allowed}
 use Rattle.wellformed.specs.Words.{holds}
 use Rattle.wellformed.specs.Ends.{endOf, methodsHold}
+use Rattle.wellformed.specs.EndLaws.{ends-got, ends-at}
 use Rattle.actor.specs.Objects.{Judges}
 use Rattle.actor.specs.Judges.{Ends}
 
@@ -27,31 +27,17 @@ methodsReach refs K a W B n b = endOf (methodsHold W (holds refs K a)) (parseMet
 unfoldable pub exprReach : List ℕ → ℕ → ℕ → List ℕ → ℕ
 exprReach K a W R = endOf (wellFormed W (allowed K a) []) (parse R 0)
 
--- an end that is one
-reached-got : {A : Type 0} (t : A → Bool) (g : Got A) (e : ℕ) → endOf t g ≡ e → e ≤ 1536 → (x : A) × (g ≡ got x e) × (t x ≡ true)
-unfolding endOf
-reached-got t none e h l = absurd (omega arith)
-reached-got t (got x i) e h l = go (t x) refl h
-  where
-    go : (b : Bool) → t x ≡ b → cond b i 4096 ≡ e → (y : _) × (got x i ≡ got y e) × (t y ≡ true)
-    go true d h = (x, ap (got x) h, d)
-    go false d h = absurd (omega arith)
-
-got-reached : {A : Type 0} (t : A → Bool) (g : Got A) (x : A) (e : ℕ) → g ≡ got x e → t x ≡ true → endOf t g ≡ e
-unfolding endOf
-got-reached t g x e h k = rw (h, k)
-
 module _ (K : List ℕ) (a W : ℕ) (w B : List ℕ) (few : W ≤ 64) where
   judge : (t : Tag) (p : Value → Bool) → (Is p ≡ HeldBy t (Is (allowed K a))) → Judges K a W w B few t (λ m b. endOf (methodsHold W p) (parseMethods (length B) B m b))
   unfolding methodsHold
   judge t p same = record {
     sound = λ m b l.
-        let r = reached-got (methodsHold W p) (parseMethods (length B) B m b) _ refl l in
+        let r = ends-at (methodsHold W p) (parseMethods (length B) B m b) _ refl (omega arith) in
         let q = and₂ (namesWithin 4 W (methodNames (r .0))) (wellFormedMethods W p (this ∷ []) (r .0)) (r .2) in
         (r .0, methods-iff (length B) B b (omega arith) m (r .0) _ .0 (r .1), q .0, rw same at (methods-to (r .0) W p (this ∷ []) (q .1)));
     complete = λ m b e M h n k.
         let g : parseMethods (length B) B m b ≡ got M e = methods-iff (length B) B b (omega arith) m M e .1 h in
-        got-reached (methodsHold W p) (parseMethods (length B) B m b) M e g (both₂ n (methods-from M W p (this ∷ []) (rw (← same) at k)));
+        ends-got (methodsHold W p) (parseMethods (length B) B m b) M e g (both₂ n (methods-from M W p (this ∷ []) (rw (← same) at k)));
   }
 
   pub judges-objects : Judges K a W w B few O (methodsReach true K a W B)
@@ -66,7 +52,7 @@ pub ends-expression : (K : List ℕ) (a W : ℕ) (R : List ℕ) → Ends K a W R
 unfolding exprReach
 ends-expression K a W R = record {
   sound = λ l.
-      let r = reached-got (wellFormed W (allowed K a) []) (parse R 0) _ refl (omega arith) in
+      let r = ends-at (wellFormed W (allowed K a) []) (parse R 0) _ refl (omega arith) in
       (r .0, parse-iff R 0 (r .0) _ .0 (r .1), wf-to (r .0) W (allowed K a) [] (r .2));
-  complete = λ t i h k. got-reached (wellFormed W (allowed K a) []) (parse R 0) t i (parse-iff R 0 t i .1 h) (wf-from t W (allowed K a) [] k);
+  complete = λ t i h k. ends-got (wellFormed W (allowed K a) []) (parse R 0) t i (parse-iff R 0 t i .1 h) (wf-from t W (allowed K a) [] k);
 }

@@ -1,17 +1,16 @@
 -- Of an actor's part the tests are true: region by region, from the words of the actor. Assumes nothing.
-use Prim.Native.Nat.{ℕ, zero, suc, _+_, _-_, _*_, _≤_, _<_}
-use mathlib.Core.Path.{_≡_, refl, sym, ap, ap₂, _∙_}
-use mathlib.Core.Bool.{Bool, true, _&&_}
-use mathlib.Core.List.{List, [], _∷_, _++_, append-nil}
+use Prim.Native.Nat.{ℕ, _+_, _-_, _*_, _≤_, _<_}
+use mathlib.Core.Path.{_≡_, sym, ap, ap₂, _∙_}
+use mathlib.Core.Bool.{true}
+use mathlib.Core.List.{List, [], _++_, append-nil}
 use native.Mathlib.Omega.{arith}
 use borrow.Author.Tests.{eq-eqb, le-leb}
-use lib.Dec.{eqb, leb}
 use lib.ListN.{length, take, drop, getD, length-append}
 use lib.Seq.{slice}
 use Rattle.atlite.specs.Base.{sum}
 use Rattle.atlite.specs.Term.{Value, nodes}
-use Rattle.atlite.specs.State.{Message, O, I, Entity, Actor, isIsolate}
-use Rattle.atlite.specs.Limits.{bodyNodes, full, withinActor}
+use Rattle.atlite.specs.State.{O, I, Entity, Actor, isIsolate}
+use Rattle.atlite.specs.Limits.{bodyNodes}
 use Rattle.atlite.specs.Valid.{IsEntity, IsActor}
 use Rattle.atlite.specs.Facts.{both₂, both₃, both₄}
 use Rattle.invariant.specs.TermTests.{Is}
@@ -20,13 +19,13 @@ use Rattle.layout.specs.PackLaws.{pad-front}
 use Rattle.layout.specs.Terms.{encodeTerm}
 use Rattle.layout.specs.Layout.{encodeMessage, slots, bodies, queues, encodeActor}
 use Rattle.layout.specs.Slots.{slots-length, queues-fit}
-use Rattle.layout.specs.Parts.{ActorFits, messages-length, r0, r1, r2, r3, r4, r5, r6, RegionsFit, counts, regions, at16, at528, at624, at720, at976, at1104}
+use Rattle.layout.specs.Parts.{ActorFits, messages-length, r0, r5, r6, counts, regions, at16, at528, at624, at720, at976, at1104}
 use Rattle.layout.specs.Holds.{WithinActor, within-to}
 use Rattle.layout.specs.Arity.{nodesIn, nodes-append, term-nodes}
 use Rattle.layout.specs.Parse.{zerosAt}
 use Rattle.layout.specs.Spans.{Spans}
 use Rattle.wellformed.specs.Kinds.{allowed, futureBy}
-use Rattle.actor.specs.Tests.{inboxAt, waitingAt, madeEnd, copiedEnd, slotsEnd, countsHold, headHolds, exprHolds, inboxHolds, waitingHolds, madeReached, copiedReached, madeHolds, copiedHolds, bodiesHold, endHolds, heapHolds, restHolds, partHolds}
+use Rattle.actor.specs.Tests.{madeEnd, copiedEnd, slotsEnd, countsHold, headHolds, exprHolds, inboxHolds, waitingHolds, madeReached, copiedReached, madeHolds, copiedHolds, bodiesHold, endHolds, heapHolds, restHolds, partHolds}
 use Rattle.actor.specs.Messages.{inbox-complete, waiting-complete}
 use Rattle.actor.specs.Objects.{Judges}
 use Rattle.actor.specs.Entities.{made-complete, copied-complete}

@@ -2,7 +2,7 @@
 -- all bodies where no entity stands. Futures and resolvers have no methods, so their answer is where they began. Assumes nothing.
 use Prim.Native.Nat.{ℕ, zero, suc, _+_, _*_, _≤_, _<_, _/_, _%_}
 use mathlib.Core.Path.{_≡_, refl, sym, ap, _∙_}
-use mathlib.Core.Bool.{Bool, true, false, false≢true, _&&_, _||_, not, cond}
+use mathlib.Core.Bool.{Bool, true, false, false≢true, _&&_, not, cond}
 use mathlib.Core.List.{List, [], _∷_, _++_}
 use mathlib.Core.Option.{none, some}
 use native.Mathlib.Nat.{add-zero}
@@ -11,7 +11,7 @@ use borrow.Author.Tests.{eqb-true, ltb-true, eq-eqb}
 use lib.Dec.{eqb, ltb}
 use lib.ListN.{length, drop, getD}
 use Rattle.atlite.specs.Term.{made, Value, ref}
-use Rattle.atlite.specs.State.{Message, Tag, O, I, Entity, object, future, resolver, isIsolate}
+use Rattle.atlite.specs.State.{Message, O, I, Entity, object, future, resolver, isIsolate}
 use Rattle.atlite.specs.Valid.{IsEntity}
 use Rattle.atlite.specs.Facts.{and₂, and₃, and₄, both₂, both₃, both₄}
 use Rattle.layout.specs.Pack.{zeros}
@@ -24,8 +24,9 @@ use Rattle.layout.specs.ParseMessages.{zeros-at, zeros-read}
 use Rattle.layout.specs.Spans.{Spans, drop-next, drop-first, span-none, span-end, span-join}
 use Rattle.wellformed.specs.Kinds.{kindAt, kindOf, allowed, futureBy}
 use Rattle.wellformed.specs.Words.{within}
-use Rattle.actor.specs.Tests.{objectEnd, plainAt, openAt, settledAt, resolverAt, reached, slotForms, madeEnd, copiedEnd}
-use Rattle.actor.specs.MessageTests.{within-some, some-within}
+use Rattle.wellformed.specs.WordLaws.{within-true}
+use Rattle.actor.specs.Tests.{objectEnd, plainAt, openAt, settledAt, resolverAt, slotForms, madeEnd, copiedEnd}
+use Rattle.actor.specs.MessageTests.{some-within}
 use Rattle.actor.specs.Objects.{reached-by, head-number, span-is, Judges, Here, object-sound, object-complete}
 
 -- ---- tests
@@ -115,18 +116,18 @@ module _ (K : List ℕ) (a W : ℕ) (w B : List ℕ) (few : W ≤ 64) where
       let three : at + 2 + 1 ≡ at + 3 = omega arith in
       (drop-first w (at + 2) x (zeros 5 ++ r) e, zeros-read 5 w (at + 3) r (ap (λ j. drop j w) (sym three) ∙ drop-next w (at + 2) x (zeros 5 ++ r) e))
 
-  settled-sound : (n at b : ℕ) → at + 8 ≤ length w → getD w at 0 / 512 ≡ n → getD w at 0 % 8 ≡ 4 → settledAt K a W w at ≡ true → (v : Value) × Here K a W w B few n at b (future (some v) []) b
+  settled-sound : (n at b : ℕ) → at + 8 ≤ length w → getD w at 0 / 512 ≡ n → getD w at 0 % 8 ≡ 4 → settledAt K a w at ≡ true → (v : Value) × Here K a W w B few n at b (future (some v) []) b
   unfolding settledAt slot zeros methodsOf encodeMethods within
   settled-sound n at b i num k h =
       let x = getD w (at + 2) 0 in
       let r = and₄ (plainAt w at) (within (allowed K a) (valueAt x)) (not (within (futureBy K) (valueAt x))) (zerosAt w 5 (at + 3)) h in
-      let v = within-some (allowed K a) (valueAt x) (r .1) in
+      let v = within-true (allowed K a) (valueAt x) (r .1) in
       let z = value-sound x (v .0) (v .1) in
       let no : not (within (futureBy K) (some (v .0))) ≡ true = rw (v .1) at (r .2) in
       (v .0, (word-sound 4 n at (encodeValue (v .0)) i num k (r .0) (sym (z .1)) (r .3), span-none B b, (z .0, refl), (v .2, not-false (futureBy K (v .0)) no, refl)))
 
   settled-complete : (n at : ℕ) (v : Value) (q : List Message) (r : List ℕ) → EntityFits n (future (some v) q) → IsEntity W (λ v. allowed K a v ≡ true) (futureBy K) a n (future (some v) q)
-      → drop at w ≡ slot n (future (some v) q) ++ r → (getD w at 0 / 512 ≡ n) × (getD w at 0 % 8 ≡ 4) × (settledAt K a W w at ≡ true)
+      → drop at w ≡ slot n (future (some v) q) ++ r → (getD w at 0 / 512 ≡ n) × (getD w at 0 % 8 ≡ 4) × (settledAt K a w at ≡ true)
   unfolding settledAt slot zeros within
   settled-complete n at v q r f h e =
       let x = encodeValue v in
@@ -135,7 +136,7 @@ module _ (K : List ℕ) (a W : ℕ) (w B : List ℕ) (few : W ≤ 64) where
       let z : valueAt (getD w (at + 2) 0) ≡ some v = ap valueAt (d .0) ∙ value-read v (f .0) in
       (p .0, p .1, both₄ (p .2) (some-within (allowed K a) (valueAt (getD w (at + 2) 0)) v z (h .0)) (rw z (false-not (futureBy K v) (h .1))) (d .1))
 
-  resolver-sound : (n at b : ℕ) → at + 8 ≤ length w → getD w at 0 / 512 ≡ n → getD w at 0 % 8 ≡ 5 → resolverAt K a W w at ≡ true → Here K a W w B few n at b (resolver (getD w (at + 2) 0)) b
+  resolver-sound : (n at b : ℕ) → at + 8 ≤ length w → getD w at 0 / 512 ≡ n → getD w at 0 % 8 ≡ 5 → resolverAt K a w at ≡ true → Here K a W w B few n at b (resolver (getD w (at + 2) 0)) b
   unfolding resolverAt slot zeros methodsOf encodeMethods
   resolver-sound n at b i num k h =
       let x = getD w (at + 2) 0 in
@@ -144,7 +145,7 @@ module _ (K : List ℕ) (a W : ℕ) (w B : List ℕ) (few : W ≤ 64) where
       (word-sound 5 n at x i num k (r .0) refl (r .2), span-none B b, omega arith, r .1)
 
   resolver-complete : (n at k : ℕ) (r : List ℕ) → futureBy K (ref a made k) ≡ true → drop at w ≡ slot n (resolver k) ++ r
-      → (getD w at 0 / 512 ≡ n) × (getD w at 0 % 8 ≡ 5) × (resolverAt K a W w at ≡ true)
+      → (getD w at 0 / 512 ≡ n) × (getD w at 0 % 8 ≡ 5) × (resolverAt K a w at ≡ true)
   unfolding resolverAt slot zeros
   resolver-complete n at k r h e =
       let p = plain-complete 5 n at (k ∷ (zeros 5 ++ r)) (omega arith) e in
@@ -167,9 +168,9 @@ module _ (K : List ℕ) (a W : ℕ) (w B : List ℕ) (few : W ≤ 64) where
         go (suc (suc zero)) k num h = let r = object-sound K a W w B few I g jg n at b e i l num k h in (object I (r .0) (r .1), r .2)
         go (suc (suc (suc zero))) k num h = let t = reached-by (openAt w at) b e h l in (future none [], here-end n at b e (future none []) (t .1) (open-sound n at b i num k (t .0)))
         go (suc (suc (suc (suc zero)))) k num h =
-            let t = reached-by (settledAt K a W w at) b e h l in let r = settled-sound n at b i num k (t .0) in (future (some (r .0)) [], here-end n at b e (future (some (r .0)) []) (t .1) (r .1))
+            let t = reached-by (settledAt K a w at) b e h l in let r = settled-sound n at b i num k (t .0) in (future (some (r .0)) [], here-end n at b e (future (some (r .0)) []) (t .1) (r .1))
         go (suc (suc (suc (suc (suc zero))))) k num h =
-            let t = reached-by (resolverAt K a W w at) b e h l in (resolver (getD w (at + 2) 0), here-end n at b e (resolver (getD w (at + 2) 0)) (t .1) (resolver-sound n at b i num k (t .0)))
+            let t = reached-by (resolverAt K a w at) b e h l in (resolver (getD w (at + 2) 0), here-end n at b e (resolver (getD w (at + 2) 0)) (t .1) (resolver-sound n at b i num k (t .0)))
         go (suc (suc (suc (suc (suc (suc k)))))) d num h = absurd (omega arith)
 
     -- in a table of answers

@@ -1,13 +1,13 @@
 -- The fields of a slot: names packed in one word and values behind it. The test is true just where they stand. Assumes nothing.
 use Prim.Native.Nat.{ℕ, zero, suc, _+_, _-_, _*_, _≤_, _<_, _/_, _%_}
-use mathlib.Core.Path.{_≡_, refl, sym, ap, ap₂, _∙_}
-use mathlib.Core.Bool.{Bool, true, false, _&&_, not}
-use mathlib.Core.List.{List, [], _∷_, _++_, append-assoc}
-use mathlib.Core.Option.{Option, none, some}
+use mathlib.Core.Path.{_≡_, refl, sym, ap, _∙_}
+use mathlib.Core.Bool.{true, not}
+use mathlib.Core.List.{List, [], _∷_, _++_}
+use mathlib.Core.Option.{some}
 use native.Mathlib.Omega.{arith}
-use borrow.Author.Tests.{eqb-true, ltb-true, leb-true, eq-eqb, lt-ltb, le-leb}
-use lib.Dec.{eqb, ltb, leb}
-use lib.ListN.{length, drop, getD, length-append}
+use borrow.Author.Tests.{eqb-true, ltb-true, lt-ltb, le-leb}
+use lib.Dec.{ltb, leb}
+use lib.ListN.{length, drop, getD}
 use Rattle.atlite.specs.Base.{member, distinct, all}
 use Rattle.atlite.specs.Term.{Value}
 use Rattle.atlite.specs.State.{Field, field, fieldNames, fieldValues}
@@ -17,7 +17,6 @@ use Rattle.invariant.specs.TermTests.{Is, all-is, is-all}
 use Rattle.layout.specs.Pack.{zeros, pad, names}
 use Rattle.layout.specs.PackLaws.{pack-low, pack-high, length-pad, pad-front, Each, NameFits, names-back}
 use Rattle.layout.specs.Reading.{namesIn}
-use Rattle.layout.specs.TermLaws.{ValueFits}
 use Rattle.layout.specs.Fitting.{within-fits}
 use Rattle.layout.specs.Layout.{valueWords}
 use Rattle.layout.specs.Decode.{fieldsIn}
@@ -28,8 +27,9 @@ use Rattle.layout.specs.ParseMessages.{ValuesAt, values-at, zeros-at, values-re
 use Rattle.layout.specs.Spans.{Spans, drop-past, drop-next, drop-first, span-end, span-word, span-join}
 use Rattle.wellformed.specs.Kinds.{allowed}
 use Rattle.wellformed.specs.Words.{within}
+use Rattle.wellformed.specs.WordLaws.{within-true}
 use Rattle.actor.specs.Tests.{namesHold, fieldsAt}
-use Rattle.actor.specs.MessageTests.{within-some, some-within}
+use Rattle.actor.specs.MessageTests.{some-within}
 
 -- ---- names
 names-word : (W c x : ℕ) → namesHold W c x ≡ true
@@ -102,7 +102,7 @@ module _ (K : List ℕ) (a W : ℕ) (w : List ℕ) (few : W ≤ 64) where
       let r = and₄ (ltb f 5) (namesHold W f x) (within (all (allowed K a)) (valuesAt w f (at + 2))) (zerosAt w (4 - f) (at + 2 + f)) h in
       let l = ltb-true f 5 (r .0) in
       let n = names-word W f x (r .1) in
-      let q = within-some (all (allowed K a)) (valuesAt w f (at + 2)) (r .2) in
+      let q = within-true (all (allowed K a)) (valuesAt w f (at + 2)) (r .2) in
       let vs = q .0 in
       let v = holding (ValuesAt w f (at + 2)) (valuesAt w f (at + 2)) vs (values-at w f (at + 2) (omega arith)) (q .1) in
       let F = fieldsIn xs vs in

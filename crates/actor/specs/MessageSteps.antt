@@ -1,18 +1,17 @@
 -- What each way through the functions over messages returns. Assumes nothing.
-use Prim.Native.Nat.{ℕ, zero, suc, _+_, _-_, _*_, _≤_, _<_, _/_, _%_}
-use mathlib.Core.Path.{_≡_, refl, sym, ap, _∙_}
+use Prim.Native.Nat.{ℕ, suc, _+_, _-_, _*_, _≤_, _<_, _/_, _%_}
+use mathlib.Core.Path.{_≡_}
 use mathlib.Core.Bool.{Bool, true, false, _&&_}
 use mathlib.Core.List.{List}
 use native.Mathlib.Omega.{arith}
 use borrow.Author.Needs.{needs}
 use borrow.Author.Tests.{eq-eqb, ne-eqb, lt-ltb, le-ltb, le-leb, lt-leb}
-use lib.Dec.{eqb, ltb, leb}
-use lib.ListN.{length, getD}
+use lib.ListN.{getD}
 use Rattle.atlite.specs.Base.{all}
 use Rattle.layout.specs.Parse.{valueAt, valuesAt, zerosAt}
 use Rattle.wellformed.specs.Kinds.{allowed}
 use Rattle.wellformed.specs.Words.{within, holds, sendIn}
-use Rattle.actor.specs.Tests.{low, arguments, sentAt, arrivedAt, inboxAt, waitsAt, waitingAt}
+use Rattle.actor.specs.Tests.{arguments, sentAt, arrivedAt, inboxAt, waitsAt, waitingAt}
 
 module _ (K : List ℕ) (a W : ℕ) (w : List ℕ) (at : ℕ) where
   -- ---- a message but for its receiver

@@ -1,9 +1,9 @@
 -- The test of a message is true just where a message stands that may be sent and holds what is allowed: its words are got by
 -- `parseMessage`, whose own tests are those of the code, so each way goes through what was got. Assumes nothing.
-use Prim.Native.Nat.{ℕ, zero, suc, _+_, _-_, _*_, _≤_, _<_, _/_, _%_}
-use mathlib.Core.Path.{_≡_, refl, sym, ap, _∙_}
+use Prim.Native.Nat.{ℕ, _+_, _-_, _≤_, _/_, _%_}
+use mathlib.Core.Path.{_≡_, refl}
 use mathlib.Core.Bool.{Bool, true, false, false≢true}
-use mathlib.Core.List.{List, [], _∷_, _++_}
+use mathlib.Core.List.{List, _++_}
 use mathlib.Core.Option.{Option, none, some}
 use native.Mathlib.Omega.{arith}
 use borrow.Author.Tests.{ltb-true, le-leb}
@@ -15,21 +15,17 @@ use Rattle.atlite.specs.State.{Message, message}
 use Rattle.atlite.specs.Valid.{sendable}
 use Rattle.atlite.specs.Facts.{and₅, both₂, both₄}
 use Rattle.layout.specs.Layout.{encodeMessage}
-use Rattle.layout.specs.Slots.{MessageFits, message-length}
+use Rattle.layout.specs.Slots.{MessageFits}
 use Rattle.layout.specs.Parse.{got, valueAt, nameOf, valuesAt, zerosAt, parseMessage}
 use Rattle.layout.specs.ParseWords.{Holding, holding}
 use Rattle.layout.specs.ParseSound.{Ended, ended, ended-behind}
 use Rattle.layout.specs.ParseMessages.{ended-sure, MessageAt, ValuesAt, values-at, message-sound, message-complete}
 use Rattle.wellformed.specs.Kinds.{allowed}
 use Rattle.wellformed.specs.Words.{within, sendIn}
+use Rattle.wellformed.specs.WordLaws.{within-true}
 use Rattle.actor.specs.Tests.{low, arguments, sentAt}
 
 -- ---- what was read
-pub within-some : {A : Type 0} (p : A → Bool) (o : Option A) → within p o ≡ true → (a : A) × (o ≡ some a) × (p a ≡ true)
-unfolding within
-within-some p none h = absurd (false≢true h)
-within-some p (some a) h = (a, refl, h)
-
 pub some-within : {A : Type 0} (p : A → Bool) (o : Option A) (a : A) → o ≡ some a → p a ≡ true → within p o ≡ true
 unfolding within
 some-within p o a e h = rw e h
@@ -88,8 +84,8 @@ module _ (K : List ℕ) (a W : ℕ) (w : List ℕ) (at : ℕ) where
       let x = getD w at 0 in
       let n = arguments x in
       let r = and₅ (eqb (x / 16777216) 14) (ltb n 5) (sendIn W (low x)) (within (all (allowed K a)) (valuesAt w n (at + 2))) (zerosAt w (4 - n) (at + 2 + n)) h in
-      let s = within-some (λ m. sendable W m n) (nameOf (low x / 128 % 4) (low x % 128)) (r .2) in
-      let q = within-some (all (allowed K a)) _ (r .3) in
+      let s = within-true (λ m. sendable W m n) (nameOf (low x / 128 % 4) (low x % 128)) (r .2) in
+      let q = within-true (all (allowed K a)) _ (r .3) in
       let f : Facts w at v (s .0) (q .0) = record { kind = r .0; few = r .1; rest = r .4; name = s .1; to = t; values = q .1 } in
       let b = ltb-true n 5 (r .1) in
       let c = holding (ValuesAt w n (at + 2)) (valuesAt w n (at + 2)) (q .0) (values-at w n (at + 2) (omega arith)) (q .1) in

@@ -2,14 +2,14 @@
 -- wait stand in order of their futures, each at an open future of series m. Assumes nothing.
 use Prim.Native.Nat.{ℕ, zero, suc, _+_, _*_, _≤_, _<_, _/_, _%_}
 use mathlib.Core.Path.{_≡_, refl, sym, ap, _∙_}
-use mathlib.Core.Bool.{Bool, true, false}
+use mathlib.Core.Bool.{true}
 use mathlib.Core.List.{List, [], _∷_, _++_, append-assoc}
-use mathlib.Core.Option.{Option, none, some}
+use mathlib.Core.Option.{some}
 use native.Mathlib.Omega.{arith}
 use borrow.Author.Tests.{eqb-true, ltb-true, leb-true, eq-eqb, lt-ltb, le-leb}
 use lib.Dec.{eqb, ltb, leb}
 use lib.ListN.{length, drop, getD}
-use Rattle.atlite.specs.Term.{made, Value, null, num, ref, Name}
+use Rattle.atlite.specs.Term.{made, Value, null, num, ref}
 use Rattle.atlite.specs.State.{Message, message}
 use Rattle.atlite.specs.Valid.{All, Sendable, OwnValue, Arrived}
 use Rattle.atlite.specs.Facts.{and₂, and₃, and₅, both₂, both₃, both₄}
@@ -25,11 +25,12 @@ use Rattle.layout.specs.Slots.{MessageFits, message-length}
 use Rattle.layout.specs.Parse.{valueAt}
 use Rattle.layout.specs.ParseWords.{value-sound, value-read}
 use Rattle.layout.specs.ParseMessages.{MessageAt}
-use Rattle.layout.specs.Spans.{Spans, drop-past, drop-first, span-none, span-end, span-of, span-inside, span-join}
+use Rattle.layout.specs.Spans.{Spans, drop-past, span-none, span-end, span-of, span-inside, span-join}
 use Rattle.wellformed.specs.Kinds.{allowed}
 use Rattle.wellformed.specs.Words.{within}
+use Rattle.wellformed.specs.WordLaws.{within-true}
 use Rattle.actor.specs.Tests.{sentAt, arrivedAt, inboxAt, waitsAt, waitingAt}
-use Rattle.actor.specs.MessageTests.{within-some, some-within, SentTo, sent-sound, sent-complete}
+use Rattle.actor.specs.MessageTests.{some-within, sent-sound, sent-complete}
 
 -- ---- receivers
 -- an actor's own, told from the word alone
@@ -98,7 +99,7 @@ module _ (K : List ℕ) (a W : ℕ) (w : List ℕ) (l : a < 128) where
   arrived-sound at i h =
       let x = getD w (at + 1) 0 in
       let r = and₃ (eqb (x / 131072) (384 + a)) (within (allowed K a) (valueAt x)) (sentAt K a W w at) h in
-      let v = within-some (allowed K a) (valueAt x) (r .1) in
+      let v = within-true (allowed K a) (valueAt x) (r .1) in
       let z = value-sound x (v .0) (v .1) in
       let s = sent-sound K a W w at (v .0) i (v .1) (r .2) in
       (message (v .0) (s .0) (s .1), s .2 .0, (own-word a x (v .0) l (z .0) (z .1) (eqb-true (x / 131072) (384 + a) (r .0)), v .2, (s .2 .1, all-is (allowed K a) P (λ y k. k) (s .1) (s .2 .2))))

@@ -1,33 +1,26 @@
 -- The slot of an object or an isolate: the test answers where its methods end among the bodies, and a number above all bodies where
 -- no such entity stands. Assumes nothing.
-use Prim.Native.Nat.{ℕ, zero, suc, _+_, _-_, _*_, _≤_, _<_, _/_, _%_}
+use Prim.Native.Nat.{ℕ, _+_, _-_, _≤_, _<_, _/_, _%_}
 use mathlib.Core.Path.{_≡_, refl, sym, ap, ap₂, _∙_}
-use mathlib.Core.Bool.{Bool, true, false, false≢true, _&&_, _||_, not, cond}
+use mathlib.Core.Bool.{Bool, true, false, _&&_, cond}
 use mathlib.Core.List.{List, [], _∷_, _++_, append-assoc}
-use mathlib.Core.Option.{Option, none, some}
 use native.Mathlib.Omega.{arith}
-use borrow.Author.Tests.{eqb-true, ltb-true, leb-true, eq-eqb, lt-ltb, le-leb}
-use lib.Dec.{eqb, ltb, leb}
-use lib.ListN.{length, drop, getD, length-append}
-use Rattle.atlite.specs.Term.{this, made, Value, ref, Methods, methodNames}
-use Rattle.atlite.specs.State.{Field, Tag, O, I, Entity, object, future, resolver, isIsolate, fieldNames}
-use Rattle.atlite.specs.Valid.{All, namesWithin, HeldBy, FieldsHeld, WellFormedMethods, IsEntity}
-use Rattle.atlite.specs.Facts.{and₂, and₃, and₄, both₂, both₃, both₄}
+use borrow.Author.Tests.{eqb-true, eq-eqb}
+use lib.Dec.{eqb}
+use lib.ListN.{length, drop, getD}
+use Rattle.atlite.specs.Term.{this, Value, Methods, methodNames}
+use Rattle.atlite.specs.State.{Field, Tag, Entity, object}
+use Rattle.atlite.specs.Valid.{namesWithin, HeldBy, WellFormedMethods, IsEntity}
+use Rattle.atlite.specs.Facts.{and₃, both₃}
 use Rattle.invariant.specs.TermTests.{Is}
-use Rattle.layout.specs.Pack.{zeros, pad, names}
-use Rattle.layout.specs.Terms.{countMethods, encodeValue, encodeMethods}
-use Rattle.layout.specs.TermLaws.{ValueFits, FitsMethods}
+use Rattle.layout.specs.Terms.{countMethods, encodeMethods}
 use Rattle.layout.specs.Fitting.{within-fits, count-methods}
-use Rattle.layout.specs.Layout.{valueWords, slotHead, tagNumber, slot, methodsOf}
-use Rattle.layout.specs.Slots.{EntityFits, tag-low, head-kind, head-fields, head-methods}
-use Rattle.layout.specs.Parse.{valueAt, zerosAt}
-use Rattle.layout.specs.ParseWords.{value-sound, value-read}
+use Rattle.layout.specs.Layout.{slotHead, tagNumber, slot, methodsOf}
+use Rattle.layout.specs.Slots.{EntityFits, tag-low, head-kind, head-fields}
 use Rattle.layout.specs.ParseSound.{MethodsAt}
-use Rattle.layout.specs.ParseMessages.{zeros-at, zeros-read}
-use Rattle.layout.specs.Spans.{Spans, drop-past, drop-next, drop-first, span-none, span-end, span-word, span-join}
-use Rattle.wellformed.specs.Kinds.{kindAt, kindOf, allowed, futureBy}
-use Rattle.actor.specs.Tests.{fieldsAt, objectEnd, plainAt, openAt, settledAt, resolverAt, reached, slotForms, madeEnd, copiedEnd}
-use Rattle.actor.specs.MessageTests.{within-some, some-within}
+use Rattle.layout.specs.Spans.{Spans, drop-past, drop-next, drop-first, span-end, span-word, span-join}
+use Rattle.wellformed.specs.Kinds.{allowed, futureBy}
+use Rattle.actor.specs.Tests.{fieldsAt, objectEnd}
 use Rattle.actor.specs.Fields.{fieldWords, five-words, fields-sound, fields-complete}
 
 -- ---- numbers

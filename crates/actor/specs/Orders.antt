@@ -1,8 +1,7 @@
 -- Messages that wait in order are those of a heap's queues, and the other way round. The slots tell which entities are open futures.
 -- Assumes nothing.
-use Prim.Native.Nat.{ℕ, zero, suc, _+_, _*_, _≤_, _<_, _%_}
+use Prim.Native.Nat.{ℕ, suc, _+_, _*_, _≤_, _<_, _%_}
 use mathlib.Core.Path.{_≡_, refl, sym, ap, _∙_}
-use mathlib.Core.Bool.{Bool}
 use mathlib.Core.List.{List, [], _∷_, _++_}
 use mathlib.Core.Option.{none, some}
 use native.Mathlib.Nat.{add-zero}
@@ -20,7 +19,7 @@ use Rattle.layout.specs.Slots.{EntityFits, EntitiesFit}
 use Rattle.wellformed.specs.Kinds.{allowed, futureBy}
 use Rattle.actor.specs.Series.{EachFrom}
 use Rattle.actor.specs.Queues.{kindNumber, Sorted, Opens, WaitsThere}
-use Rattle.actor.specs.Messages.{WaitsFrom, Ordered}
+use Rattle.actor.specs.Messages.{Ordered}
 
 module _ (K : List ℕ) (a W : ℕ) (w : List ℕ) (l : a < 128) where
   abbrev P : Value → Type 0

@@ -1,6 +1,6 @@
 -- The messages that wait, given to their futures. Words have them apart from the slots, in order of their futures; so the slots tell
 -- entities with no queue, and each open future is given the messages that are aimed at it. Assumes nothing.
-use Prim.Native.Nat.{ℕ, zero, suc, _+_, _-_, _*_, _≤_, _<_, _%_}
+use Prim.Native.Nat.{ℕ, zero, suc, _+_, _-_, _*_, _≤_, _%_}
 use mathlib.Core.Path.{_≡_, refl, sym, ap, ap₂, _∙_, subst as transp}
 use mathlib.Core.Bool.{Bool, true, false}
 use mathlib.Core.List.{List, [], _∷_, _++_, append-assoc}
@@ -12,13 +12,13 @@ use lib.Dec.{eqb}
 use lib.ListN.{length, drop, getD, getElem?}
 use Rattle.atlite.specs.Base.{if_then_else_, sum}
 use Rattle.atlite.specs.Term.{made, Value, ref}
-use Rattle.atlite.specs.State.{Message, Tag, O, I, Entity, object, future, resolver}
+use Rattle.atlite.specs.State.{Message, O, I, Entity, object, future, resolver}
 use Rattle.atlite.specs.Limits.{bodyNodes}
 use Rattle.atlite.specs.Valid.{All, Waits, IsEntity}
 use Rattle.atlite.specs.Facts.{none-some}
 use Rattle.layout.specs.PackLaws.{Each, each-map}
 use Rattle.layout.specs.Terms.{encodeMethods}
-use Rattle.layout.specs.Layout.{tagNumber, slotHead, slot, slots, methodsOf, bodies, queue, queues}
+use Rattle.layout.specs.Layout.{tagNumber, slot, slots, methodsOf, bodies, queue, queues}
 use Rattle.layout.specs.Decode.{aim, mine, others}
 use Rattle.layout.specs.Slots.{MessageFits, EntityFits, EntitiesFit, slot-length, tag-low, head-kind}
 use Rattle.layout.specs.Spans.{drop-first, drop-past}

@@ -1,9 +1,9 @@
 -- What each way through the functions over slots returns. Assumes nothing.
 use Prim.Native.Nat.{ℕ, zero, suc, _+_, _-_, _*_, _≤_, _<_, _/_, _%_}
 use mathlib.Core.Path.{_≡_, refl, sym, ap, _∙_}
-use mathlib.Core.Bool.{Bool, true, false, _&&_, _||_, not, cond}
+use mathlib.Core.Bool.{Bool, true, false, _&&_, _||_, cond}
 use mathlib.Core.List.{List}
-use mathlib.Core.Option.{Option, none, some}
+use mathlib.Core.Option.{none, some}
 use native.Mathlib.Numerals.{add-one}
 use native.Mathlib.Omega.{arith}
 use borrow.Author.Needs.{needs}
@@ -11,7 +11,7 @@ use borrow.Author.Tests.{eq-eqb, ne-eqb, lt-ltb, le-ltb, le-leb, lt-leb}
 use lib.Dec.{eqb, ltb, leb}
 use lib.ListN.{length, getD}
 use Rattle.atlite.specs.Base.{all}
-use Rattle.atlite.specs.Term.{made, Value, null, ref}
+use Rattle.atlite.specs.Term.{made, null, ref}
 use Rattle.layout.specs.TermReading.{refIn}
 use Rattle.layout.specs.Parse.{given, valueForms, valueIn, valueAt, valuesAt, zerosAt, parseMethods}
 use Rattle.wellformed.specs.Kinds.{kindAt, kindOf, allowed, futureBy}
@@ -89,34 +89,34 @@ module _ (w : List ℕ) (at : ℕ) where
     unfolding openAt
     open-all t r h = rw (← e, t) h
 
-    module _ (K : List ℕ) (a W : ℕ) where
-      pub settled-parts : v ≡ false → false ≡ settledAt K a W w at
+    module _ (K : List ℕ) (a : ℕ) where
+      pub settled-parts : v ≡ false → false ≡ settledAt K a w at
       unfolding settledAt
       settled-parts t = rw (← e, t)
 
-      pub resolver-parts : v ≡ false → false ≡ resolverAt K a W w at
+      pub resolver-parts : v ≡ false → false ≡ resolverAt K a w at
       unfolding resolverAt
       resolver-parts t = rw (← e, t)
 
       module _ (t : v ≡ true) (u : Bool) where
-        pub settled-value : u ≡ within (holds true K a) (valueAt (getD w (at + 2) 0)) → u ≡ false → false ≡ settledAt K a W w at
+        pub settled-value : u ≡ within (holds true K a) (valueAt (getD w (at + 2) 0)) → u ≡ false → false ≡ settledAt K a w at
         unfolding settledAt holds
         settled-value d s = rw (← e, t, ← d, s)
 
-        pub settled-future : u ≡ within (holds true K a) (valueAt (getD w (at + 2) 0)) → u ≡ true → (f : Bool) → f ≡ within (futureBy K) (valueAt (getD w (at + 2) 0)) → f ≡ true → false ≡ settledAt K a W w at
+        pub settled-future : u ≡ within (holds true K a) (valueAt (getD w (at + 2) 0)) → u ≡ true → (f : Bool) → f ≡ within (futureBy K) (valueAt (getD w (at + 2) 0)) → f ≡ true → false ≡ settledAt K a w at
         unfolding settledAt holds
         settled-future d s f g i = rw (← e, t, ← d, s, ← g, i)
 
         pub settled-all : u ≡ within (holds true K a) (valueAt (getD w (at + 2) 0)) → u ≡ true → (f : Bool) → f ≡ within (futureBy K) (valueAt (getD w (at + 2) 0)) → f ≡ false
-            → (r : Bool) → r ≡ zerosAt w 5 (at + 3) → r ≡ settledAt K a W w at
+            → (r : Bool) → r ≡ zerosAt w 5 (at + 3) → r ≡ settledAt K a w at
         unfolding settledAt holds
         settled-all d s f g i r h = rw (← e, t, ← d, s, ← g, i) h
 
-        pub resolver-other : u ≡ futureBy K (ref a made (getD w (at + 2) 0)) → u ≡ false → false ≡ resolverAt K a W w at
+        pub resolver-other : u ≡ futureBy K (ref a made (getD w (at + 2) 0)) → u ≡ false → false ≡ resolverAt K a w at
         unfolding resolverAt
         resolver-other d s = rw (← e, t, ← d, s)
 
-        pub resolver-all : u ≡ futureBy K (ref a made (getD w (at + 2) 0)) → u ≡ true → (r : Bool) → r ≡ zerosAt w 5 (at + 3) → r ≡ resolverAt K a W w at
+        pub resolver-all : u ≡ futureBy K (ref a made (getD w (at + 2) 0)) → u ≡ true → (r : Bool) → r ≡ zerosAt w 5 (at + 3) → r ≡ resolverAt K a w at
         unfolding resolverAt
         resolver-all d s r h = rw (← e, t, ← d, s) h
 
@@ -200,10 +200,10 @@ module _ (K : List ℕ) (a W : ℕ) (w : List ℕ) (f g : ℕ → ℕ → ℕ) (
     pub made-open : getD w at 0 % 8 ≡ 3 → (v : Bool) → v ≡ openAt w at → (r : ℕ) → r ≡ reached v b → r ≡ madeEnd K a W w f g n at b
     made-open e v d r h = h ∙ ap (λ t. cond t b 4096) d ∙ sym (made-kind 3 e)
 
-    pub made-settled : getD w at 0 % 8 ≡ 4 → (v : Bool) → v ≡ settledAt K a W w at → (r : ℕ) → r ≡ reached v b → r ≡ madeEnd K a W w f g n at b
+    pub made-settled : getD w at 0 % 8 ≡ 4 → (v : Bool) → v ≡ settledAt K a w at → (r : ℕ) → r ≡ reached v b → r ≡ madeEnd K a W w f g n at b
     made-settled e v d r h = h ∙ ap (λ t. cond t b 4096) d ∙ sym (made-kind 4 e)
 
-    pub made-resolver : getD w at 0 % 8 ≡ 5 → (v : Bool) → v ≡ resolverAt K a W w at → (r : ℕ) → r ≡ reached v b → r ≡ madeEnd K a W w f g n at b
+    pub made-resolver : getD w at 0 % 8 ≡ 5 → (v : Bool) → v ≡ resolverAt K a w at → (r : ℕ) → r ≡ reached v b → r ≡ madeEnd K a W w f g n at b
     made-resolver e v d r h = h ∙ ap (λ t. cond t b 4096) d ∙ sym (made-kind 5 e)
 
     pub made-none : (getD w at 0 % 8 ≡ 1 → ⊥) → (getD w at 0 % 8 ≡ 2 → ⊥) → (getD w at 0 % 8 ≡ 3 → ⊥) → (getD w at 0 % 8 ≡ 4 → ⊥) → (getD w at 0 % 8 ≡ 5 → ⊥) → 4096 ≡ madeEnd K a W w f g n at b

@@ -1,9 +1,9 @@
 -- A part of which the tests are true is an actor's: what each region was found to hold is put together, and the messages that wait are
 -- given to their futures. Assumes nothing.
-use Prim.Native.Nat.{ℕ, zero, suc, _+_, _-_, _*_, _≤_, _<_}
+use Prim.Native.Nat.{ℕ, suc, _+_, _-_, _*_, _≤_, _<_}
 use mathlib.Core.Path.{_≡_, refl, sym, ap, ap₂, _∙_}
-use mathlib.Core.Bool.{Bool, true, _&&_}
-use mathlib.Core.List.{List, [], _∷_, _++_, append-assoc}
+use mathlib.Core.Bool.{true}
+use mathlib.Core.List.{List, [], _∷_, _++_}
 use native.Mathlib.Omega.{arith}
 use borrow.Author.Tests.{eqb-true, leb-true, le-leb}
 use lib.Dec.{eqb, leb}
@@ -13,15 +13,15 @@ use Rattle.atlite.specs.Base.{sum}
 use Rattle.atlite.specs.Term.{Value, Term, nodes}
 use Rattle.atlite.specs.State.{Message, O, I, Entity, Actor, isIsolate}
 use Rattle.atlite.specs.Limits.{bodyNodes, waiting, full, withinActor}
-use Rattle.atlite.specs.Valid.{All, WellFormed, Arrived, IsEntity, IsActor}
+use Rattle.atlite.specs.Valid.{WellFormed, IsEntity, IsActor}
 use Rattle.atlite.specs.Facts.{and₂, and₃, and₅, both₂, both₃, both₄}
 use Rattle.invariant.specs.TermTests.{Is}
 use Rattle.layout.specs.Pack.{zeros, pad, flat}
-use Rattle.layout.specs.PackLaws.{Each, pad-front}
+use Rattle.layout.specs.PackLaws.{pad-front}
 use Rattle.layout.specs.Terms.{encodeTerm}
 use Rattle.layout.specs.TermLaws.{Fits}
 use Rattle.layout.specs.Layout.{encodeMessage, slots, bodies, queues, encodeActor}
-use Rattle.layout.specs.Slots.{MessageFits, EntitiesFit}
+use Rattle.layout.specs.Slots.{EntitiesFit}
 use Rattle.layout.specs.Parts.{ActorFits}
 use Rattle.layout.specs.Holds.{isolate-waits, queues-count}
 use Rattle.layout.specs.Arity.{nodesIn, nodes-append, term-nodes}
@@ -30,7 +30,7 @@ use Rattle.layout.specs.Spans.{Spans, span-join, span-end}
 use Rattle.wellformed.specs.Kinds.{allowed, futureBy}
 use Rattle.actor.specs.Tests.{inboxAt, waitingAt, madeEnd, copiedEnd, countsHold, headHolds, exprHolds, inboxHolds, waitingHolds, madeReached, copiedReached, madeHolds, copiedHolds, bodiesHold, endHolds, heapHolds, restHolds, partHolds}
 use Rattle.actor.specs.Messages.{InboxIs, inbox-sound, Ordered, WaitingIs, waiting-sound}
-use Rattle.actor.specs.Objects.{Judges, Here}
+use Rattle.actor.specs.Objects.{Judges}
 use Rattle.actor.specs.Entities.{made-sound, copied-sound}
 use Rattle.actor.specs.Series.{EachFrom, each-whole, SeriesIs, slots-sound}
 use Rattle.actor.specs.Queues.{fill, fill-length, fill-slots, fill-bodies, fill-nodes, fill-queues, fill-fits, fill-holds, slots-kind}

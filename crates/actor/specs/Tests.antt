@@ -1,6 +1,6 @@
--- What the code computes of the words of a part, test by test, as the words alone tell it. Assumes nothing; nothing here need be
--- believed, since `Exact` says of the last test that it is true of the words of an actor that holds its conditions, and of no others.
--- A slot is judged by where its methods end among the bodies, a number above their words where it fails.
+-- What the code computes of the words of a part, test by test, as the words alone tell it. Nothing here need be believed: by `Sound`
+-- and `Complete` the last test is true of the words of an actor that holds its conditions, and of no others. A slot is judged by where
+-- its methods end among the bodies, which is a number above all of them where it fails. Assumes nothing.
 use Prim.Native.Nat.{ℕ, zero, suc, _+_, _-_, _*_, _/_, _%_}
 use mathlib.Core.Bool.{Bool, true, _&&_, not, cond}
 use mathlib.Core.List.{List, [], _∷_}
@@ -39,6 +39,15 @@ plainAt w at = eqb (getD w at 0 / 8 % 64) 0 && eqb (getD w (at + 1) 0) 0
 
 unfoldable pub openAt : List ℕ → ℕ → Bool
 openAt w at = plainAt w at && zerosAt w 6 (at + 2)
+
+-- of the actor a: a future with its value, which is no future, and a resolver of a future of its own
+unfoldable pub settledAt : List ℕ → ℕ → List ℕ → ℕ → Bool
+settledAt K a w at =
+    let v = valueAt (getD w (at + 2) 0) in
+    plainAt w at && within (allowed K a) v && not (within (futureBy K) v) && zerosAt w 5 (at + 3)
+
+unfoldable pub resolverAt : List ℕ → ℕ → List ℕ → ℕ → Bool
+resolverAt K a w at = plainAt w at && futureBy K (ref a made (getD w (at + 2) 0)) && zerosAt w 5 (at + 3)
 
 -- an actor a of a state with W words and entities of the kinds K; w the part
 module _ (K : List ℕ) (a W : ℕ) (w : List ℕ) where
@@ -88,15 +97,6 @@ module _ (K : List ℕ) (a W : ℕ) (w : List ℕ) where
   unfoldable pub objectEnd : ℕ → ℕ → ℕ → ℕ
   objectEnd at b e = cond (fieldsAt (getD w at 0 / 8 % 8) at && eqb (getD w (at + 7) 0) 0 && eqb (b + getD w (at + 6) 0) e) e 4096
 
-  -- a future with its value, which is no future
-  unfoldable pub settledAt : ℕ → Bool
-  settledAt at =
-      let v = valueAt (getD w (at + 2) 0) in
-      plainAt w at && within (allowed K a) v && not (within (futureBy K) v) && zerosAt w 5 (at + 3)
-
-  unfoldable pub resolverAt : ℕ → Bool
-  resolverAt at = plainAt w at && futureBy K (ref a made (getD w (at + 2) 0)) && zerosAt w 5 (at + 3)
-
   -- the n-th slot, at `at`, of series m and of series c; f and g tell where the methods of an object and of an isolate end
   module _ (f g : ℕ → ℕ → ℕ) where
     abbrev pub slotForms : ℕ → ℕ → ℕ → List ℕ
@@ -105,8 +105,8 @@ module _ (K : List ℕ) (a W : ℕ) (w : List ℕ) where
         ∷ objectEnd at b (f m b)
         ∷ objectEnd at b (g m b)
         ∷ reached (openAt w at) b
-        ∷ reached (settledAt at) b
-        ∷ reached (resolverAt at) b
+        ∷ reached (settledAt K a w at) b
+        ∷ reached (resolverAt K a w at) b
         ∷ []
 
     unfoldable pub madeEnd : ℕ → ℕ → ℕ → ℕ

@@ -40,7 +40,7 @@ fn future(x: u32, kinds: &[u8; 192]) -> bool
     if x / PAYLOAD != 3 {
         return false;
     }
-    is_future(wellformed::kind_of(x % PAYLOAD, kinds))
+    is_future(wellformed::word::kind_of(x % PAYLOAD, kinds))
 }
 
 // Whether the entity `n` that the actor `a` made is a future.
@@ -129,9 +129,9 @@ fn open(w: &[u32], at: usize) -> bool
 }
 
 // A future with its value, which is no future.
-fn settled(w: &[u32], at: usize, a: u32, words: u32, kinds: &[u8; 192]) -> bool
+fn settled(w: &[u32], at: usize, a: u32, kinds: &[u8; 192]) -> bool
     requires { ⌜ at + 8 ≤ length (now w) ⌝ }
-    ensures { λ r. ⌜ r ≡ settledAt (now (kinds .entry)) a words (now (w .entry)) at ⌝ }
+    ensures { λ r. ⌜ r ≡ settledAt (now (kinds .entry)) a (now (w .entry)) at ⌝ }
 {
     if plain(w, at) {
         if wellformed::value(w[at + 2], kinds, a, true) {
@@ -146,9 +146,9 @@ fn settled(w: &[u32], at: usize, a: u32, words: u32, kinds: &[u8; 192]) -> bool
 }
 
 // A resolver of a future of this actor.
-fn resolver(w: &[u32], at: usize, a: u32, words: u32, kinds: &[u8; 192]) -> bool
+fn resolver(w: &[u32], at: usize, a: u32, kinds: &[u8; 192]) -> bool
     requires { ⌜ (at + 8 ≤ length (now w)) × (a < 4) ⌝ }
-    ensures { λ r. ⌜ r ≡ resolverAt (now (kinds .entry)) a words (now (w .entry)) at ⌝ }
+    ensures { λ r. ⌜ r ≡ resolverAt (now (kinds .entry)) a (now (w .entry)) at ⌝ }
 {
     if plain(w, at) {
         if own_future(w[at + 2], a, kinds) {
@@ -190,8 +190,8 @@ fn made_slot(
         1 => object(w, at, bodies, b, true, a, words, kinds),
         2 => object(w, at, bodies, b, false, a, words, kinds),
         3 => reach(open(w, at), b),
-        4 => reach(settled(w, at, a, words, kinds), b),
-        5 => reach(resolver(w, at, a, words, kinds), b),
+        4 => reach(settled(w, at, a, kinds), b),
+        5 => reach(resolver(w, at, a, kinds), b),
         _ => FAIL,
     }
 }

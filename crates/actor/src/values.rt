@@ -54,7 +54,7 @@ pub fn names(x: u32, n: usize, words: u32) -> bool
         return x == 0;
     }
     let y = x % 128;
-    if wellformed::is_name(y, words) {
+    if wellformed::word::is_name(y, words) {
         if among(x / 128, n - 1, y) {
             return false;
         }

@@ -15,6 +15,10 @@ pub data Result (A : Type 0) : Type 0 where
   done : A → Result A
   refused : ℕ → Result A
 
+unfoldable pub isDone : {A : Type 0} → Result A → Bool
+isDone (done a) = true
+isDone (refused n) = false
+
 infixl 20 _>>=_
 abbrev pub _>>=_ : {A B : Type 0} → Result A → (A → Result B) → Result B
 _>>=_ (done a) f = f a
@@ -71,5 +75,5 @@ sameBytes (x ∷ xs) (y ∷ ys) = eqb x y && sameBytes xs ys
 
 -- all definitions above, opened together: name it on an `unfolding` line
 unfoldable pub Base : Unit {0}
-unfolding orRefuse require if_then_else_ bytes member distinct all sum sameBytes
+unfolding isDone orRefuse require if_then_else_ bytes member distinct all sum sameBytes
 Base = tt

@@ -25,7 +25,7 @@ use Rattle.invariant.specs.Terms.{put-first}
 use Rattle.invariant.specs.Expanded.{Plain, expanded}
 
 -- lines of the grammar are joined to a script of the grammar
-joined : (w : ℕ) (ls : List Line) (e : Src) → GrammaticalLines w ls → join ls ≡ done e → Grammatical w e
+pub joined : (w : ℕ) (ls : List Line) (e : Src) → GrammaticalLines w ls → join ls ≡ done e → Grammatical w e
 unfolding join GrammaticalLines Grammatical
 joined w [] e g h = absurd (refused-done h)
 joined w (expression d ∷ []) e g h = let q : d ≡ e = cc in transp (Grammatical w) q (g .0)
@@ -49,7 +49,7 @@ plain-held σ a (num n) h = h
 plain-held σ a (ref b r n) h = absurd (false≢true h)
 
 -- the script with null for `this` is closed
-script-closed : (w : ℕ) (P : Value → Type 0) (e : Src) → Plain P → Grammatical w e → bound [] e ≡ true → single e ≡ true → WellFormed (subst this (val null) (expand e)) w P []
+pub script-closed : (w : ℕ) (P : Value → Type 0) (e : Src) → Plain P → Grammatical w e → bound [] e ≡ true → single e ≡ true → WellFormed (subst this (val null) (expand e)) w P []
 unfolding unreferring
 script-closed w P e p g b s = put-first (expand e) w P this (val null) [] (p null refl) (expanded e w P [] (this ∷ []) p (λ z h. h) g b s)
 

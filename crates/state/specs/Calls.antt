@@ -9,7 +9,7 @@ use native.Mathlib.Omega.{arith}
 use borrow.Author.Needs.{needs}
 use lib.ListN.{length, take, drop}
 use lib.Seq.{take-all}
-use Rattle.atlite.specs.Base.{Result, done, refused, orRefuse}
+use Rattle.atlite.specs.Base.{Result, done, refused, orRefuse, isDone}
 use Rattle.atlite.specs.State.{State}
 use Rattle.atlite.specs.Valid.{IsState}
 use Rattle.atlite.specs.Listing.{listing}
@@ -23,11 +23,6 @@ use Rattle.layout.specs.Meaning.{answered, stateIn, lent, listCall}
 use Rattle.layout.specs.Outcomes.{room-enough, room-short}
 use Rattle.atlite.specs.Facts.{found}
 use Rattle.lister.specs.Lists.{Lists}
-
--- a result that is no refusal
-unfoldable pub isDone : {A : Type 0} → Result A → Bool
-isDone (done a) = true
-isDone (refused n) = false
 
 -- The answer is r and the text is new: what `listCall` says of the words w and the text old.
 unfoldable pub ListsCall : List ℕ → List ℕ → Listed → List ℕ → Type 0

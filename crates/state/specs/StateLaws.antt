@@ -25,13 +25,13 @@ use Rattle.layout.specs.PackLaws.{Each, pad-front, length-zeros, length-flat}
 use Rattle.layout.specs.Layout.{encodeActor, encodeWord, encode}
 use Rattle.layout.specs.Parts.{ActorFits, actor-length}
 use Rattle.layout.specs.Whole.{StateFits, topWords, actors-parts, words-three, count0, count1, actors-at, words-are}
+use Rattle.layout.specs.Writes.{zeros-split}
 use Rattle.layout.specs.Holds.{state-fits}
 use Rattle.dictionary.specs.Entries.{entriesAt, entriesHold}
 use Rattle.dictionary.specs.EntryLaws.{entries-encoded, length-entries}
 use Rattle.actor.specs.Judges.{IsPart}
 use Rattle.wellformed.specs.Kinds.{allowed, futureBy}
 use Rattle.kinds.specs.Table.{rows, FewAll}
-use Rattle.kinds.specs.TableLaws.{zeros-split}
 use Rattle.kinds.specs.KindLaws.{rowOf, parts-rows, parts-few, allowed-holdable, future-is}
 use Rattle.state.specs.Conditions.{Words, HeadHolds, PartsHold, kindsFor, Holds, AreState}
 

@@ -10,7 +10,7 @@ use mir.Val.{Fits}
 use mir.Syntax.{w32}
 use lib.ListN.{length, take, drop, getD, length-take, length-drop}
 use lib.Seq.{drop-drop, take-all, length-take-le}
-use Rattle.atlite.specs.Base.{orRefuse}
+use Rattle.atlite.specs.Base.{orRefuse, isDone}
 use Rattle.atlite.specs.State.{State}
 use Rattle.layout.specs.Pack.{zeros}
 use Rattle.layout.specs.Layout.{stateWords}
@@ -22,7 +22,6 @@ use Rattle.dictionary.specs.Entries.{entriesHold}
 use Rattle.actor.specs.Judges.{Decides, IsPart}
 use Rattle.kinds.specs.Table.{Tabled}
 use Rattle.state.specs.Conditions.{HeadHolds, PartsHold, kindsFor, AreState}
-use Rattle.state.specs.Calls.{isDone}
 use Rattle.state.specs.StateLaws.{holds-state, state-holds}
 
 -- ---- the head

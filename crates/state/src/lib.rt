@@ -6,11 +6,12 @@ ghost use mathlib.Core.Path.{_≡_};
 ghost use mathlib.Core.Bool.{true};
 ghost use Prim.Native.Nat.{_+_, _*_, _≤_};
 ghost use lib.ListN.{length, drop};
+ghost use Rattle.atlite.specs.Base.{isDone};
 ghost use Rattle.atlite.specs.Answers.{listAnswer};
 ghost use Rattle.layout.specs.Meaning.{stateIn, listCall};
 ghost use Rattle.actor.specs.Judges.{Decides};
 ghost use Rattle.state.specs.Conditions.{HeadHolds, PartsHold, AreState};
-ghost use Rattle.state.specs.Calls.{isDone, Measures, ListsCall};
+ghost use Rattle.state.specs.Calls.{Measures, ListsCall};
 use atlite::Listed;
 
 fn wide(n: u32) -> usize
@@ -74,6 +75,7 @@ fn are_actors(w: &[u32]) -> bool
     false
 }
 
+// Whether 16,384 words are a state.
 fn are_state(w: &[u32]) -> bool
     requires { ⌜ length (now w) ≡ 16384 ⌝ }
     ensures { λ r. ⌜ Decides (AreState (now (w .entry))) r ⌝ }
@@ -119,6 +121,7 @@ fn list_state(state: &[u32], text: &mut [u8]) -> Listed
     Listed::Bytes(n)
 }
 
+// The causes in their order, then the listing.
 fn list_text(state: &[u32], text: &mut [u8]) -> Listed
     ensures { λ r. ⌜ ListsCall (now (state .entry)) (now (text .entry)) r (now (text .exit)) ⌝ }
 {

@@ -7,11 +7,26 @@ use mathlib.Core.Option.{Option, some}
 use native.Mathlib.Omega.{arith}
 use lib.ListN.{length, getD, List·getD-eq-default}
 use Rattle.atlite.specs.Term.{Term, Terms, nil, Inits, noField, Methods, noMethod}
-use Rattle.layout.specs.Parse.{Got, none, got, onGot, pair, behind, noHead, heads, headIn, headAt, fieldAt, methodAt, termsBy, initsBy, methodsBy, formed, parseTerms, parseInits, parseMethods}
+use Rattle.layout.specs.Parse.{Got, none, got, onGot, pair, behind, heads, headIn, headAt, fieldAt, methodAt, termsBy, initsBy, methodsBy, formed, parseTerms, parseInits, parseMethods}
 use Rattle.layout.specs.ParseHeads.{head-kind}
 use Rattle.layout.specs.ParseLaws.{parse, parse-step}
 use Rattle.wellformed.specs.Words.{within}
 use Rattle.wellformed.specs.Ends.{endOf}
+
+-- ---- what an end says
+module _ {A : Type 0} (t : A → Bool) where
+  pub ends-got : (g : Got A) (a : A) (i : ℕ) → g ≡ got a i → t a ≡ true → endOf t g ≡ i
+  unfolding endOf
+  ends-got g a i e h = rw (e, h)
+
+  pub ends-at : (g : Got A) (r : ℕ) → r ≡ endOf t g → r < 4096 → (a : A) × (g ≡ got a r) × (t a ≡ true)
+  unfolding endOf
+  ends-at none r e l = absurd (omega arith)
+  ends-at (got a i) r e l = go (t a) refl e
+    where
+      go : (b : Bool) → t a ≡ b → r ≡ cond b i 4096 → (a′ : A) × (got a i ≡ got a′ r) × (t a′ ≡ true)
+      go true h e = (a, ap (got a) (sym e), h)
+      go false h e = absurd (omega arith)
 
 -- ---- two parts
 -- the same ends under two tests, and none

@@ -2,21 +2,20 @@
 use Prim.Native.Nat.{ℕ, zero, suc, _+_, _*_, _/_, _%_, _≤_, _<_}
 use mathlib.Core.Path.{_≡_, refl, sym, ap, _∙_}
 use mathlib.Core.Bool.{Bool, true, false, _&&_, cond, not, and-true, and-false, and-assoc, true≢false}
-use mathlib.Core.List.{List, [], _∷_, _++_}
+use mathlib.Core.List.{List, _∷_}
 use mathlib.Core.Option.{Option, some}
 use native.Mathlib.Omega.{arith}
 use borrow.Author.Needs.{needs}
 use borrow.Author.Tests.{lt-ltb, lt-leb, ltb-true, ltb-false, ne-eqb}
 use lib.Dec.{eqb, ltb}
 use lib.ListN.{length, getD, List·getD-eq-default}
-use Rattle.atlite.specs.Base.{member}
 use Rattle.atlite.specs.Facts.{and₂}
-use Rattle.atlite.specs.Term.{Value, Name, plain, twoWay, resolve, register, Kind, Term, val, var, plus, percent, get, set, call, send, letIn, future, literal, Terms, nil, cons, countTerms}
+use Rattle.atlite.specs.Term.{Value, Name, plain, twoWay, resolve, register, Kind, Term, var, plus, percent, get, set, call, send, letIn, future, Terms, nil, cons, countTerms}
 use Rattle.atlite.specs.Valid.{isName, isVariable, sendable, callable}
 use Rattle.atlite.specs.ValidTest.{wellFormed, wellFormedAll}
 use Rattle.layout.specs.PackLaws.{pack-low}
 use Rattle.layout.specs.Terms.{kindNumber}
-use Rattle.layout.specs.Parse.{Got, none, got, onGot, pair, valueIn, valueAt, nameOf, Head, noHead, leaf, unary, binary, asks, only, valueHead, askHead, askIn, literalHead, heads, headIn, headAt, termsBy, formed, parseTerms}
+use Rattle.layout.specs.Parse.{Got, none, got, onGot, pair, valueIn, valueAt, nameOf, Head, noHead, leaf, unary, binary, asks, only, valueHead, askHead, askIn, heads, headIn, headAt, termsBy, formed, parseTerms}
 use Rattle.layout.specs.ParseSound.{terms-sound}
 use Rattle.layout.specs.ParseLaws.{parse, parse-step}
 use Rattle.checks.specs.Bound.{Kept}
@@ -24,7 +23,7 @@ use Rattle.wellformed.specs.Words.{within, sendIn, callIn}
 use Rattle.wellformed.specs.WordLaws.{name-past}
 use Rattle.wellformed.specs.Ends.{endOf, Behind, Scope, Sees, bound, Bound, TermEnds, TermsEnd, FormEnds, LiteralEnds, Arguments, two}
 use Rattle.wellformed.specs.ScopeLaws.{one-bound, two-bound}
-use Rattle.wellformed.specs.HeaderLaws.{variable-below}
+use Rattle.wellformed.specs.NameLaws.{variable-below}
 use Rattle.wellformed.specs.EndLaws.{ends-on, ends-on-none, ends-pair, ends-pair-none, pair-same, parse-past, term-nowhere, terms-nowhere, parse-kind}
 
 -- two terms as a list

@@ -1,118 +1,21 @@
 -- The laws of the functions that test headers: one for each way to return. Assumes nothing.
-use Prim.Native.Nat.{ℕ, suc, _+_, _*_, _/_, _%_, _≤_, _<_}
-use mathlib.Core.Path.{_≡_, refl, sym, ap, _∙_}
+use Prim.Native.Nat.{ℕ, _+_, _/_, _%_, _≤_, _<_}
+use mathlib.Core.Path.{_≡_, refl, sym, _∙_}
 use mathlib.Core.Bool.{Bool, true, false, _&&_, not, cond, and-true, and-false}
-use mathlib.Core.List.{List, [], _∷_, _++_}
+use mathlib.Core.List.{List, [], _∷_}
 use mathlib.Core.Option.{Option, none, some}
-use native.Mathlib.Nat.{div-div-eq-div-mul}
 use native.Mathlib.Omega.{arith}
 use borrow.Author.Needs.{needs}
-use borrow.Author.Tests.{lt-ltb, le-ltb, le-leb, lt-leb, eq-eqb, ne-eqb, ltb-true, ltb-false, leb-true}
+use borrow.Author.Tests.{lt-ltb, le-ltb, le-leb, lt-leb, eq-eqb, ne-eqb, ltb-false}
 use lib.Dec.{eqb, ltb, leb}
-use lib.ListN.{length}
 use Rattle.atlite.specs.Base.{if_then_else_, member, distinct, all}
 use Rattle.atlite.specs.Valid.{isName, isVariable, parameters}
 use Rattle.atlite.specs.Facts.{and₂}
-use Rattle.layout.specs.Pack.{names}
-use Rattle.layout.specs.PackLaws.{pack-low, pack-high, Each}
 use Rattle.layout.specs.Parse.{fieldAt, placesIn, paramsAt, named, methodAt}
 use Rattle.wellformed.specs.Words.{within}
 use Rattle.wellformed.specs.WordLaws.{name-past}
-use Rattle.wellformed.specs.Ends.{fresh, Met, Fresh, FieldHeader, two, third, empty, methodHead, MethodHeader}
-
--- ---- names
--- what is no name, or no variable, at all
-pub name-below : (c x : ℕ) → c ≤ 64 → isName c x ≡ true → x < 127
-unfolding isName
-name-below c x l e = omega (arith, ltb-true x (8 + c) (and₂ (leb 7 x) (ltb x (8 + c)) e .1))
-
-pub variable-below : (c x : ℕ) → c ≤ 64 → isVariable c x ≡ true → x < 127
-unfolding isVariable
-variable-below c x l e = omega (arith, ltb-true x (8 + c) (and₂ (ltb 0 x) (ltb x (8 + c)) e .1))
-
--- ---- names before others
-abbrev freshIn : ℕ → ℕ → Bool
-freshIn N x = cond (eqb x (N % 128)) false (cond (eqb x (N / 128 % 128)) false (cond (eqb x (N / 16384 % 128)) false true))
-
-none-of : (a b d : Bool) → cond a false (cond b false (cond d false true)) ≡ not (if a then true else (if b then true else (if d then true else false)))
-unfolding if_then_else_
-none-of true b d = refl
-none-of false true d = refl
-none-of false false true = refl
-none-of false false false = refl
-
-module _ (x a b d : ℕ) (ha : a < 127) (hb : b < 127) (hd : d < 127) where
-  three-names : freshIn (a + 128 * (b + 128 * (d + 128 * 0))) x ≡ not (if eqb x a then true else (if eqb x b then true else (if eqb x d then true else false)))
-  three-names =
-      let m = b + 128 * (d + 128 * 0) in
-      let i : (a + 128 * m) % 128 ≡ a = pack-low 128 a m (omega arith) in
-      let q : (a + 128 * m) / 128 ≡ m = pack-high 128 a m (omega arith) in
-      let j : (a + 128 * m) / 128 % 128 ≡ b = ap (λ k. k % 128) q ∙ pack-low 128 b (d + 128 * 0) (omega arith) in
-      let u : (a + 128 * m) / 128 / 128 ≡ d + 128 * 0 = ap (λ k. k / 128) q ∙ pack-high 128 b (d + 128 * 0) (omega arith) in
-      let v : (a + 128 * m) / 16384 ≡ (a + 128 * m) / 128 / 128 = sym (div-div-eq-div-mul (a + 128 * m) 128 128) in
-      let k : (a + 128 * m) / 16384 % 128 ≡ d = ap (λ k. k % 128) (v ∙ u) ∙ pack-low 128 d 0 (omega arith) in
-      rw (i, j, k) (none-of (eqb x a) (eqb x b) (eqb x d))
-
-fresh-names : (x : ℕ) (ns : List ℕ) → 0 < x → length ns ≤ 3 → Each (λ y. (0 < y) × (y < 127)) ns → freshIn (names ns) x ≡ not (member x ns)
-unfolding names member if_then_else_
-fresh-names x [] z l h = rw (ne-eqb x 0 (λ e. omega arith))
-fresh-names x (a ∷ []) z l h = three-names x a 0 0 (h .0 .1) (omega arith) (omega arith) ∙ rw (ne-eqb x 0 (λ e. omega arith))
-fresh-names x (a ∷ b ∷ []) z l h = three-names x a b 0 (h .0 .1) (h .1 .0 .1) (omega arith) ∙ rw (ne-eqb x 0 (λ e. omega arith))
-fresh-names x (a ∷ b ∷ d ∷ []) z l h = three-names x a b d (h .0 .1) (h .1 .0 .1) (h .1 .1 .0 .1)
-fresh-names x (a ∷ b ∷ d ∷ u ∷ ns) z l h = absurd (omega arith)
-
-module _ (c x N : ℕ) (o : Bool) (e : o ≡ isName c x) where
-  pub fresh-not : o ≡ false → Fresh c N x false
-  unfolding Fresh fresh
-  fresh-not t n ns z m = rw (sym e ∙ t)
-
-  module _ (t : o ≡ true) where
-    by-names : (r : Bool) → freshIn N x ≡ r → Fresh c N x r
-    unfolding Fresh fresh isName
-    by-names r i n ns z m =
-        let v : isName c x ≡ true = sym e ∙ t in
-        let l = leb-true 7 x (and₂ (leb 7 x) (ltb x (8 + c)) v .0) in
-        let k = fresh-names x ns (omega arith) (omega (arith, m .few)) (m .each) in
-        let d : freshIn (names ns) x ≡ r = ap (λ k. freshIn k x) (sym (m .is)) ∙ i in
-        rw (v, ← k, d)
-
-    pub fresh-first : x ≡ N % 128 → Fresh c N x false
-    fresh-first i = by-names false (rw (eq-eqb x (N % 128) i))
-
-    module _ (a : x ≡ N % 128 → ⊥) where
-      pub fresh-second : x ≡ N / 128 % 128 → Fresh c N x false
-      fresh-second i = by-names false (rw (ne-eqb x (N % 128) a, eq-eqb x (N / 128 % 128) i))
-
-      module _ (b : x ≡ N / 128 % 128 → ⊥) where
-        pub fresh-third : x ≡ N / 16384 % 128 → Fresh c N x false
-        fresh-third i = by-names false (rw (ne-eqb x (N % 128) a, ne-eqb x (N / 128 % 128) b, eq-eqb x (N / 16384 % 128) i))
-
-        pub fresh-yes : (x ≡ N / 16384 % 128 → ⊥) → Fresh c N x true
-        fresh-yes d = by-names true (rw (ne-eqb x (N % 128) a, ne-eqb x (N / 128 % 128) b, ne-eqb x (N / 16384 % 128) d))
-
--- one name more
-few-small : (ns : List ℕ) → length ns ≤ 3 → Each (λ y. (0 < y) × (y < 127)) ns → names ns < 2097152
-unfolding names
-few-small [] l h = omega arith
-few-small (a ∷ []) l h = omega (arith, h .0)
-few-small (a ∷ b ∷ []) l h = omega (arith, h .0, h .1 .0)
-few-small (a ∷ b ∷ d ∷ []) l h = omega (arith, h .0, h .1 .0, h .1 .1 .0)
-few-small (a ∷ b ∷ d ∷ u ∷ ns) l h = absurd (omega arith)
-
-pub met-noted : (c N n x : ℕ) (ns : List ℕ) → c ≤ 64 → fresh c ns x ≡ true → Met N (suc n) ns → Met (x + 128 * (N % 2097152)) n (x ∷ ns)
-unfolding names fresh isName
-met-noted c N n x ns l e m =
-    let v = and₂ (isName c x) (not (member x ns)) e .0 in
-    let k = and₂ (leb 7 x) (ltb x (8 + c)) v in
-    let a = leb-true 7 x (k .0) in
-    let b = ltb-true x (8 + c) (k .1) in
-    let s = few-small ns (omega (arith, m .few)) (m .each) in
-    let d : N % 2097152 ≡ names ns = omega (arith, m .is) in
-    record { is = ap (λ k. x + 128 * k) d; few = omega (arith, m .few); each = ((omega arith, omega arith), m .each) }
-
-pub met-none : (n : ℕ) → n ≤ 4 → Met 0 n []
-unfolding names
-met-none n l = record { is = refl; few = omega arith; each = tt }
+use Rattle.wellformed.specs.Ends.{fresh, Fresh, FieldHeader, two, third, empty, methodHead, MethodHeader}
+use Rattle.wellformed.specs.NameLaws.{name-below, variable-below}
 
 -- ---- fields
 module _ (c h N : ℕ) where
@@ -186,7 +89,7 @@ many-fields p l = rw (lt-leb (p % 8) 4 l)
 
 pub ruleset place-laws = (needs, two-first, two-second, two-same, two-yes, third-not, third-first, third-second, third-yes, empty-yes, empty-second, empty-first, small-counts, many-fields)
 
-pub ruleset field-laws = (needs, fresh-not, fresh-first, fresh-second, fresh-third, fresh-yes, field-other, field-name)
+pub ruleset field-laws = (needs, field-other, field-name)
 
 -- ---- parameters
 module _ (c : ℕ) where

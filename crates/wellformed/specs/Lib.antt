@@ -6,8 +6,9 @@ pub mod WordLaws
 -- where terms end
 pub mod Ends
 pub mod EndLaws
--- the laws of scopes and headers
+-- the laws of scopes, names and headers
 pub mod ScopeLaws
+pub mod NameLaws
 pub mod HeaderLaws
 -- the laws of terms
 pub mod FormLaws

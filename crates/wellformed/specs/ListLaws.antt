@@ -1,25 +1,25 @@
 -- The laws of the functions that find where lists of terms, fields and methods end, and literals: one for each way to return. Assumes
 -- nothing.
-use Prim.Native.Nat.{ℕ, zero, suc, _+_, _-_, _*_, _/_, _%_, _≤_, _<_}
+use Prim.Native.Nat.{ℕ, zero, suc, _+_, _-_, _*_, _/_, _%_, _≤_}
 use mathlib.Core.Path.{_≡_, refl, sym, ap, _∙_}
-use mathlib.Core.Bool.{Bool, true, false, _&&_, cond, not}
-use mathlib.Core.List.{List, [], _∷_, _++_}
-use mathlib.Core.Option.{Option, some}
+use mathlib.Core.Bool.{Bool, true, false}
+use mathlib.Core.List.{List, _∷_, _++_}
+use mathlib.Core.Option.{some}
 use native.Mathlib.Numerals.{sub-one}
 use native.Mathlib.Omega.{arith}
 use borrow.Author.Needs.{needs}
 use lib.ListN.{length, getD}
 use Rattle.atlite.specs.Facts.{and₂}
-use Rattle.atlite.specs.Term.{Value, Term, Terms, nil, cons, Inits, noField, Methods, noMethod, method}
+use Rattle.atlite.specs.Term.{Value, Term, cons, Inits, Methods, method}
 use Rattle.atlite.specs.Valid.{parameters}
 use Rattle.atlite.specs.ValidTest.{wellFormed, wellFormedAll}
-use Rattle.layout.specs.Parse.{Got, none, got, onGot, pair, behind, fieldAt, methodAt, termsBy, initsBy, methodsBy, parseTerms, parseInits, parseMethods}
+use Rattle.layout.specs.Parse.{pair, fieldAt, methodAt, termsBy, initsBy, methodsBy, parseTerms, parseInits, parseMethods}
 use Rattle.layout.specs.ParseWords.{holding, field-word}
 use Rattle.layout.specs.ParseLaws.{parse}
 use Rattle.checks.specs.Bound.{Kept}
 use Rattle.wellformed.specs.Ends.{endOf, bound, fresh, Met, FieldHeader, methodHead, MethodHeader, fieldsWell, methodsWell, TermEnds, TermsEnd, FieldsEnd, MethodsEnd}
 use Rattle.wellformed.specs.ScopeLaws.{method-bound}
-use Rattle.wellformed.specs.HeaderLaws.{met-noted}
+use Rattle.wellformed.specs.NameLaws.{met-noted}
 use Rattle.wellformed.specs.EndLaws.{ends-pair, headed, headed-none, terms-nowhere, fields-nowhere, methods-nowhere, fields-past, methods-past}
 
 -- ---- terms

@@ -9,13 +9,13 @@ use borrow.Author.Needs.{needs}
 use borrow.Author.Tests.{le-leb, lt-leb, lt-ltb, leb-true}
 use lib.Dec.{leb, ltb}
 use lib.ListN.{length, set, replicate}
-use Rattle.atlite.specs.Base.{member, distinct, all}
+use Rattle.atlite.specs.Base.{member, all}
 use Rattle.atlite.specs.Facts.{and₂}
-use Rattle.atlite.specs.Term.{this, Value, Kind, Term, literal, Inits, noField, Methods, noMethod, method, initNames, methodNames, seen}
+use Rattle.atlite.specs.Term.{this, Value, Kind, literal, Inits, noField, Methods, noMethod, method, initNames, methodNames, seen}
 use Rattle.atlite.specs.Valid.{isName, namesWithin, parameters}
 use Rattle.atlite.specs.ValidTest.{held, wellFormed, wellFormedInits, wellFormedMethods}
-use Rattle.layout.specs.Terms.{countInits, countMethods, kindNumber}
-use Rattle.layout.specs.Parse.{Got, got, parts, literalHead, formed, parseInits, parseMethods}
+use Rattle.layout.specs.Terms.{countInits, countMethods}
+use Rattle.layout.specs.Parse.{parts, formed, parseInits, parseMethods}
 use Rattle.layout.specs.ParseSound.{inits-sound, methods-sound}
 use Rattle.layout.specs.ParseLaws.{parse}
 use Rattle.checks.specs.Bound.{Swapped, Kept}
@@ -24,7 +24,7 @@ use Rattle.wellformed.specs.Kinds.{allowed}
 use Rattle.wellformed.specs.Words.{holds}
 use Rattle.wellformed.specs.Ends.{endOf, methodsHold, Scope, fresh, methodHead, fieldsWell, methodsWell, TermEnds, FieldsEnd, MethodsEnd, LiteralEnds, Opens, Refers}
 use Rattle.wellformed.specs.ScopeLaws.{scope-none, scope-bind}
-use Rattle.wellformed.specs.HeaderLaws.{met-none}
+use Rattle.wellformed.specs.NameLaws.{met-none}
 use Rattle.wellformed.specs.EndLaws.{ends-same, ends-none, ends-pair, ends-pair-none, methods-nowhere}
 use Rattle.wellformed.specs.FormLaws.{tested}
 

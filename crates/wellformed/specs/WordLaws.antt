@@ -1,20 +1,26 @@
 -- The laws of the functions that test one word: one for each way to return. Assumes nothing.
 use Prim.Native.Nat.{ℕ, zero, suc, _+_, _*_, _/_, _%_, _≤_, _<_}
 use mathlib.Core.Path.{_≡_, refl, sym, ap, _∙_}
-use mathlib.Core.Bool.{Bool, true, false, _&&_, cond, and-assoc}
-use mathlib.Core.List.{List, []}
+use mathlib.Core.Bool.{Bool, true, false, _&&_, cond, and-assoc, true≢false}
+use mathlib.Core.List.{List}
 use mathlib.Core.Option.{Option, none, some}
 use native.Mathlib.Omega.{arith}
 use borrow.Author.Needs.{needs}
-use borrow.Author.Tests.{ltb-true, ltb-false, eqb-true, lt-ltb, le-ltb, le-leb, lt-leb, eq-eqb, ne-eqb}
+use borrow.Author.Tests.{ltb-false, lt-ltb, le-ltb, le-leb, lt-leb, eq-eqb, ne-eqb}
 use lib.Dec.{eqb, ltb, leb}
 use lib.ListN.{getD}
-use Rattle.atlite.specs.Term.{Series, made, copied, Value, null, num, ref, Name, plain, twoWay, resolve, register}
+use Rattle.atlite.specs.Term.{Series, made, copied, null, num, Name, plain, twoWay, resolve, register}
 use Rattle.atlite.specs.Valid.{isName, isVariable, sendable, callable, unreferring}
 use Rattle.layout.specs.Parse.{valueIn, valueAt, nameOf}
 use Rattle.layout.specs.TermReading.{seriesIn, refIn}
 use Rattle.wellformed.specs.Kinds.{kindAt, kindOf, visibleKind, allowed}
 use Rattle.wellformed.specs.Words.{within, holds, sendIn, callIn, lone}
+
+-- what passes is there
+pub within-true : {A : Type 0} (p : A → Bool) (o : Option A) → within p o ≡ true → (a : A) × (o ≡ some a) × (p a ≡ true)
+unfolding within
+within-true p none e = absurd (true≢false (sym e))
+within-true p (some a) e = (a, refl, e)
 
 -- ---- names
 module _ (w x : ℕ) where

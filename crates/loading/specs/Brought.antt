@@ -1,0 +1,99 @@
+-- What the forms of a script bring in, by their kinds. Most stand as they are; the script's own forms are written out. Assumes nothing.
+use mathlib.Core.Path.{_≡_, refl, sym}
+use mathlib.Core.List.{[], _∷_}
+use Prim.Native.Nat.{ℕ, suc, _/_, _%_, _≤_, _<_}
+use native.Mathlib.Omega.{arith}
+use borrow.Author.Tests.{lt-ltb, le-ltb, ne-eqb}
+use Rattle.atlite.specs.Term.{this, ·t, ·f, ·r, ·s}
+use Rattle.layout.specs.Pack.{node}
+use Rattle.layout.specs.Terms.{variable}
+use Rattle.printer.specs.Shown.{payload, arity}
+use Rattle.printer.specs.HeadLaws.{arity-header}
+use Rattle.loading.specs.Emitted.{binding, closureWords, askWords, before, after, inner}
+use Rattle.loading.specs.Expands.{Brings}
+
+module _ (z : ℕ) where
+  module _ (h : ℕ) where
+    pub brings-copy : (c : ℕ) → 7 ≤ h / payload → h / payload < 15 → arity h ≡ c → Brings z h (h ∷ []) z c []
+    unfolding before inner after
+    brings-copy c l u e = record {
+      isForm = l;
+      no-resolve = λ d. omega arith;
+      no-when = λ d. omega arith;
+      front = rw (ne-eqb (h / payload) 64 (λ d. omega arith), ne-eqb (h / payload) 65 (λ d. omega arith), ne-eqb (h / payload) 68 (λ d. omega arith), ne-eqb (h / payload) 130 (λ d. omega arith));
+      self = rw (lt-ltb (h / payload) 15 u);
+      count = e;
+      back = rw (ne-eqb (h / payload) 64 (λ d. omega arith));
+    }
+
+    pub brings-literal : (c : ℕ) → 15 ≤ h / payload → h / payload < 18 → arity h ≡ c → Brings z h (h ∷ []) (variable this) c []
+    unfolding before inner after
+    brings-literal c l u e = record {
+      isForm = omega arith;
+      no-resolve = λ d. omega arith;
+      no-when = λ d. omega arith;
+      front = rw (ne-eqb (h / payload) 64 (λ d. omega arith), ne-eqb (h / payload) 65 (λ d. omega arith), ne-eqb (h / payload) 68 (λ d. omega arith), ne-eqb (h / payload) 130 (λ d. omega arith));
+      self = rw (le-ltb (h / payload) 15 l, lt-ltb (h / payload) 18 u);
+      count = e;
+      back = rw (ne-eqb (h / payload) 64 (λ d. omega arith));
+    }
+
+    pub brings-header : 128 ≤ h / payload → (h / payload ≡ 130 → ⊥) → Brings z h (h ∷ []) z 1 []
+    unfolding before inner after
+    brings-header l n = record {
+      isForm = omega arith;
+      no-resolve = λ d. omega arith;
+      no-when = λ d. omega arith;
+      front = rw (ne-eqb (h / payload) 64 (λ d. omega arith), ne-eqb (h / payload) 65 (λ d. omega arith), ne-eqb (h / payload) 68 (λ d. omega arith), ne-eqb (h / payload) 130 n);
+      self = rw (le-ltb (h / payload) 15 (omega arith), le-ltb (h / payload) 18 (omega arith), ne-eqb (h / payload) 65 (λ d. omega arith));
+      count = sym (arity-header h l .is);
+      back = rw (ne-eqb (h / payload) 64 (λ d. omega arith));
+    }
+
+    pub brings-definition : (x : ℕ) → h / payload ≡ 130 → h % 128 ≡ x → Brings z h (binding x ∷ []) z 1 []
+    unfolding before inner after
+    brings-definition x e f = record {
+      isForm = omega arith;
+      no-resolve = λ d. omega arith;
+      no-when = λ d. omega arith;
+      front = rw (e, f);
+      self = rw e;
+      count = sym (arity-header h (omega arith) .is);
+      back = rw e;
+    }
+
+    pub brings-fn : (x : ℕ) → h / payload ≡ 65 → h % 128 ≡ x → Brings z h (closureWords z x) (variable ·t) 1 []
+    unfolding before inner after arity
+    brings-fn x e f = record {
+      isForm = omega arith;
+      no-resolve = λ d. omega arith;
+      no-when = λ d. omega arith;
+      front = rw (e, f);
+      self = rw e;
+      count = rw e;
+      back = rw e;
+    }
+
+    pub brings-ask : (n : ℕ) → h / payload ≡ 64 → h / 512 % 4 ≡ n → Brings z h (askWords h) z (suc n) (variable ·r ∷ variable ·f ∷ [])
+    unfolding before inner after arity
+    brings-ask n e f = record {
+      isForm = omega arith;
+      no-resolve = λ d. omega arith;
+      no-when = λ d. omega arith;
+      front = rw e;
+      self = rw e;
+      count = rw (e, f) (omega arith);
+      back = rw e;
+    }
+
+  pub brings-seq : Brings z (node 68 0) (binding ·s ∷ []) z 2 []
+  unfolding before inner after arity
+  brings-seq = record {
+    isForm = omega arith;
+    no-resolve = λ d. omega arith;
+    no-when = λ d. omega arith;
+    front = refl;
+    self = refl;
+    count = refl;
+    back = refl;
+  }

@@ -1,0 +1,18 @@
+-- expansion with what stands for `this`
+pub mod Expanding
+-- the words of an expansion, and the code that puts them
+pub mod Emitted
+pub mod Codes
+pub mod FormLaws
+pub mod EmitLaws
+-- a script's words expand to those of its expansion
+pub mod Expands
+pub mod Brought
+pub mod Emits
+pub mod Lines
+-- the first state
+pub mod Start
+-- what a caller learns
+pub mod Loaded
+pub mod LoadLaws
+pub mod Calls

@@ -1,0 +1,14 @@
+pub mod Posts
+pub mod Follows
+pub mod Followed
+pub mod Arrives
+pub mod Joined
+pub mod Copies
+pub mod Room
+pub mod Copying
+pub mod Delivers
+pub mod Looks
+pub mod Meets
+pub mod Pending
+pub mod Steps
+pub mod Reaches

@@ -1,0 +1,121 @@
+// What one word says: names, references, and the name of a call.
+ghost use mathlib.Core.Path.{_≡_};
+ghost use mathlib.Core.Bool.{_&&_};
+ghost use Prim.Native.Nat.{_≤_, _%_};
+ghost use lib.Dec.{leb};
+ghost use Rattle.atlite.specs.Valid.{isName, isVariable};
+ghost use Rattle.layout.specs.TermReading.{refIn};
+ghost use Rattle.wellformed.specs.Kinds.{kindOf, allowed};
+ghost use Rattle.wellformed.specs.Words.{callIn, lone as isLone};
+use crate::PAYLOAD;
+
+// The name of a field or a method.
+pub fn is_name(x: u32, words: u32) -> bool
+    requires { ⌜ words ≤ 64 ⌝ }
+    ensures { λ r. ⌜ r ≡ isName words x ⌝ }
+{
+    if x < 7 {
+        return false;
+    }
+    if x < 8 + words {
+        return true;
+    }
+    false
+}
+
+// A variable or a parameter, of which `this` is none.
+pub fn is_variable(x: u32, words: u32) -> bool
+    requires { ⌜ words ≤ 64 ⌝ }
+    ensures { λ r. ⌜ r ≡ isVariable words x ⌝ }
+{
+    if x == 0 {
+        return false;
+    }
+    if x < 8 + words {
+        return true;
+    }
+    false
+}
+
+// The kind of what the payload `q` of a reference names, or 0.
+pub fn kind_of(q: u32, kinds: &[u8; 192]) -> u8
+    ensures { λ r. ⌜ r ≡ kindOf (now (kinds .entry)) (refIn q) ⌝ }
+{
+    let b = q / 65536 / 2;
+    let n = q % 65536;
+    if 4 <= b {
+        return 0;
+    }
+    if q / 65536 % 2 == 0 {
+        if n < 32 {
+            return kinds[(48 * b + n) as usize];
+        }
+        return 0;
+    }
+    if n < 16 {
+        return kinds[(48 * b + (32 + n)) as usize];
+    }
+    0
+}
+
+// Whether the actor may hold the reference of payload `q`: an isolate only if it is its own.
+pub fn reference(q: u32, kinds: &[u8; 192], actor: u32) -> bool
+    ensures { λ r. ⌜ r ≡ allowed (now (kinds .entry)) actor (refIn q) ⌝ }
+{
+    let k = kind_of(q, kinds);
+    if k == 0 {
+        return false;
+    }
+    if actor == q / 65536 / 2 {
+        return true;
+    }
+    if k == 2 {
+        return false;
+    }
+    true
+}
+
+// A name, and from `low` to `high` arguments.
+pub fn named(x: u32, n: u32, low: u32, high: u32, words: u32) -> bool
+    requires { ⌜ words ≤ 64 ⌝ }
+    ensures { λ r. ⌜ r ≡ isName words x && (leb low n && leb n high) ⌝ }
+{
+    if is_name(x, words) {
+        if n < low {
+            return false;
+        }
+        if high < n {
+            return false;
+        }
+        return true;
+    }
+    false
+}
+
+// A name that no script can write has one argument, and its place is empty.
+pub fn lone(x: u32, n: u32) -> bool
+    ensures { λ r. ⌜ r ≡ isLone x n ⌝ }
+{
+    if x == 0 {
+        if n == 1 {
+            return true;
+        }
+        return false;
+    }
+    false
+}
+
+// The same of a call.
+pub fn call_name(h: u32, words: u32) -> bool
+    requires { ⌜ words ≤ 64 ⌝ }
+    ensures { λ r. ⌜ r ≡ callIn words (h % 16777216) ⌝ }
+{
+    let p = h % PAYLOAD;
+    let x = p % 128;
+    let n = p / 128 / 4;
+    match p / 128 % 4 {
+        0 => named(x, n, 0, 3, words),
+        2 => lone(x, n),
+        _ => false,
+    }
+}
