@@ -12,3 +12,5 @@ pub mod Meets
 pub mod Pending
 pub mod Steps
 pub mod Reaches
+pub mod Nodes
+pub mod Sends
