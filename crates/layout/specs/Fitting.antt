@@ -89,7 +89,7 @@ held-fits Kind.actor p f v h = plain-fits v h
 mutual
   unfolding countInits initNames
 
-  count-inits : (fs : Inits) → countInits fs ≡ length (initNames fs)
+  pub count-inits : (fs : Inits) → countInits fs ≡ length (initNames fs)
   count-inits noField = refl
   count-inits (Inits.field f e fs) = ap suc (count-inits fs)
 

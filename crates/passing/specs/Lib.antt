@@ -14,3 +14,4 @@ pub mod Steps
 pub mod Reaches
 pub mod Nodes
 pub mod Sends
+pub mod Grown
