@@ -3,3 +3,4 @@ pub mod Judging
 pub mod Parsing
 pub mod Prints
 pub mod Reprinting
+pub mod TableTest

@@ -2,8 +2,9 @@
 ghost use mathlib.Core.Path.{_≡_};
 ghost use Prim.Native.Nat.{_≤_};
 ghost use lib.ListN.{length, take};
+ghost use Rattle.atlite.specs.Base.{isDone};
 ghost use Rattle.atlite.specs.Answers.{printAnswer};
-ghost use Rattle.layout.specs.Meaning.{printCall};
+ghost use Rattle.layout.specs.Meaning.{tableIn, printCall};
 ghost use Rattle.script.specs.Prints.{Prints, Given, IsText, Front};
 use atlite::Printed;
 use atlite::Tabled;
@@ -70,4 +71,19 @@ pub fn print(table: &[u32], text: &mut [u8]) -> Printed
     ensures { λ r. ⌜ (printAnswer r ≡ printCall (now (table .entry)) (now (text .entry)) .result) × (now (text .exit) ≡ printCall (now (table .entry)) (now (text .entry)) .buffer) ⌝ }
 {
     print_table(table, text)
+}
+
+// Whether `table` begins with the 1,280 words of a table.
+//
+// It answers exactly what the definitions say, of any words, by whether they print: every text fits into 4,096 bytes. So it is ruled out
+// that words which differ from the one layout of a script's table pass for it, and that a table with a text of full length is refused.
+pub fn is_table(table: &[u32]) -> bool
+    ensures { λ r. ⌜ r ≡ isDone (tableIn (now (table .entry))) ⌝ }
+{
+    let mut text = [0u8; 4096];
+    let p = print_table(table, &mut text);
+    match p {
+        Printed::Bytes(n) => true,
+        Printed::Refused(n) => false,
+    }
 }

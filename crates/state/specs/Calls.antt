@@ -36,16 +36,16 @@ pub measured : (w old new : List ℕ) (r : ℕ) → Lists w old new r → Measur
 unfolding Measures
 measured w old new r l = l .count
 
--- ---- whether words are a state
-done-state : (r : Result State) → isDone r ≡ true → (σ : State) × (r ≡ done σ)
+-- ---- whether words are a state, or what else a result is asked for
+pub done-told : {A : Type 0} (r : Result A) → isDone r ≡ true → (a : A) × (r ≡ done a)
 unfolding isDone
-done-state (done σ) h = (σ, refl)
-done-state (refused n) h = absurd (false≢true h)
+done-told (done a) h = (a, refl)
+done-told (refused n) h = absurd (false≢true h)
 
-refused-state : (o : Option State) → isDone (orRefuse 7 o) ≡ false → orRefuse 7 o ≡ refused 7
+pub refused-told : {A : Type 0} (o : Option A) → isDone (orRefuse 7 o) ≡ false → orRefuse 7 o ≡ refused 7
 unfolding isDone orRefuse
-refused-state (some σ) h = absurd (false≢true (sym h))
-refused-state none h = refl
+refused-told (some a) h = absurd (false≢true (sym h))
+refused-told none h = refl
 
 pub is-told : (w : List ℕ) (r : Bool) → r ≡ isDone (stateIn w) → r ≡ true → isDone (stateIn w) ≡ true
 is-told w r e d = sym e ∙ d
@@ -57,11 +57,11 @@ module _ (w old : List ℕ) where
 
   pub no-state : 16384 ≤ length w → (r : Bool) → r ≡ isDone (stateIn w) → r ≡ false → ListsCall w old (Refused 7) old
   unfolding ListsCall listAnswer listCall answered lent stateIn
-  no-state h r e d = rw (room-enough stateWords w h, refused-state (stateOf (take stateWords w)) (sym e ∙ d)) (refl, refl)
+  no-state h r e d = rw (room-enough stateWords w h, refused-told (stateOf (take stateWords w)) (sym e ∙ d)) (refl, refl)
 
   module _ (h : (16384 ≤ length w) × (isDone (stateIn w) ≡ true)) where
     abbrev here : (σ : State) × (stateIn w ≡ done σ)
-    here = done-state (stateIn w) (h .1)
+    here = done-told (stateIn w) (h .1)
 
     abbrev listed : List ℕ
     listed = listing (here .0)
