@@ -92,7 +92,7 @@ digits-bound (suc k) n w = go (ltb n 10) (digits-bound k (n / 10) ((48 + n % 10)
     go true i = omega arith
     go false i = omega arith
 
-number-bound : (n : ℕ) → length (printNumber n) ≤ 8
+pub number-bound : (n : ℕ) → length (printNumber n) ≤ 8
 unfolding printNumber
 number-bound n = digits-bound 8 n []
 

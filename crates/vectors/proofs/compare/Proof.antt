@@ -1,0 +1,23 @@
+-- `compare` is safe: the parts that are lent are as long as their counts say. Assumes nothing.
+use borrow.Author.Needs.{needs}
+use lib.Seq.{length-take-le}
+use Rattle.vectors.proofs.compare.Statement.{statement}
+use Rattle.vectors.proofs.compare.Tie as tie
+
+pub compare-spec : {M : Type 1} → statement M
+compare-spec =
+    tie.close
+    (tie.spec
+    (λ c. search needs)  -- returns
+    (λ c. search needs)  -- returns-2
+    (λ c κs. search needs)  -- large-buffer-requires
+    (λ c. search (needs, length-take-le))  -- slice-aggregate-play
+    (λ c. search (needs, length-take-le))  -- slice-aggregate-play-2
+    (λ c κs. search needs)  -- play-requires
+    (λ c. search needs)  -- array-share-prefix-out
+    (λ c. search (needs, length-take-le))  -- slice-aggregate-same
+    (λ c. search (needs, length-take-le))  -- slice-aggregate-same-2
+    (λ c κs. search needs)  -- same-requires
+    (λ c. search needs)  -- returns-3
+    (λ c. search needs)  -- returns-4
+    )

@@ -1,0 +1,117 @@
+// Plays every input of the file `vectors`, and counts those for which the bytes stored with them are written.
+//
+// A record is the length of the input in five digits, a space, the length of what is to be written in five digits and the end of the line;
+// then the input, and what is to be written.
+
+ghost use mathlib.Core.Path.{_≡_};
+ghost use Prim.Native.Nat.{_+_, _≤_};
+ghost use lib.ListN.{length};
+
+// The file has no more records.
+const RECORDS: u64 = 1000;
+
+// What a record came to.
+enum Came {
+    Agreed,
+    Differed,
+    Ended,
+}
+
+// The digit `b`, 0 where it is none.
+fn digit(b: u8) -> usize
+    ensures { λ r. ⌜ r ≤ 9 ⌝ }
+{
+    if b < b'0' {
+        return 0;
+    }
+    if b'9' < b {
+        return 0;
+    }
+    (b - b'0') as usize
+}
+
+// The number of five digits at `at`.
+fn five_digits(head: &[u8], at: usize) -> usize
+    requires { ⌜ at + 5 ≤ length (now head) ⌝ }
+    ensures { λ r. ⌜ r ≤ 99999 ⌝ }
+{
+    let high = digit(head[at]) * 100 + digit(head[at + 1]) * 10 + digit(head[at + 2]);
+    let low = digit(head[at + 3]) * 10 + digit(head[at + 4]);
+    high * 100 + low
+}
+
+// Plays the first `n` bytes of `input` and compares with the first `m` of `stored`.
+fn compare(input: &[u8], n: usize, stored: &[u8], m: usize) -> Came {
+    if input.len() < n {
+        return Came::Differed;
+    }
+    if stored.len() < m {
+        return Came::Differed;
+    }
+    let mut out = io::large_buffer();
+    let k = play::play(&input[..n], &mut out);
+    if check::same(&out[..k], &stored[..m]) {
+        return Came::Agreed;
+    }
+    Came::Differed
+}
+
+// Reads `n` bytes to the front of `buffer`, and says whether they were there.
+fn fill(fd: i32, buffer: &mut [u8], n: usize) -> bool {
+    if buffer.len() < n {
+        return false;
+    }
+    let k = io::read_full(fd, &mut buffer[..n]);
+    k == n
+}
+
+// The next record. One that is cut short or too long agrees with nothing.
+fn next(fd: i32) -> Came {
+    let mut head = [0u8; 12];
+    if fill(fd, &mut head, 12) {
+        let n = five_digits(&head, 0);
+        let m = five_digits(&head, 6);
+        let mut input = [0u8; 8194];
+        let mut stored = io::large_buffer();
+        if fill(fd, &mut input, n) {
+            if fill(fd, &mut stored, m) {
+                return compare(&input, n, &stored, m);
+            }
+        }
+        return Came::Differed;
+    }
+    Came::Ended
+}
+
+// Says how many of all records agree.
+fn tell(agreed: u64, all: u64) {
+    io::print_decimal(1, agreed);
+    io::write_all(1, b" of ");
+    io::print_decimal(1, all);
+    io::write_all(1, b" inputs are played as stored\n");
+}
+
+// Goes through at most `left` records more; of those before, `agreed` agree.
+fn go_through(fd: i32, left: u64, agreed: u64)
+    requires { ⌜ agreed + left ≤ 1000 ⌝ }
+{
+    if left == 0 {
+        return tell(agreed, RECORDS);
+    }
+    let came = next(fd);
+    match came {
+        Came::Agreed => go_through(fd, left - 1, agreed + 1),
+        Came::Differed => go_through(fd, left - 1, agreed),
+        Came::Ended => tell(agreed, RECORDS - left),
+    }
+}
+
+fn main() {
+    let fd = os::open_read(b"vectors");
+    if fd < 0 {
+        os::fail(b"vectors");
+        return;
+    }
+    go_through(fd, RECORDS, 0);
+    libc::close(fd);
+}
