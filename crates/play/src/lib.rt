@@ -2,7 +2,6 @@
 //
 // The schedule line is judged first, so that its refusal comes before any of the script. What follows is a chain of the engine's calls, each
 // of which can refuse; a refusal is written as its number.
-
 ghost use mathlib.Core.Path.{_≡_};
 ghost use Prim.Native.Nat.{_≤_};
 ghost use lib.ListN.{length, drop};
@@ -76,7 +75,7 @@ fn show_state(state: &[u32], out: &mut [u8]) -> usize
     requires { ⌜ (16384 ≤ length (now state)) × (65536 ≤ length (now out)) ⌝ }
     ensures { λ r. ⌜ Shows (ofState (now (state .entry))) (now (out .entry)) r (now (out .exit)) ⌝ }
 {
-    let listed = state::list(state, &mut out[..OUTPUT]);
+    let listed = engine::list(state, &mut out[..OUTPUT]);
     match listed {
         Listed::Bytes(n) => n,
         Listed::Refused(n) => refuse(n, out),
@@ -111,7 +110,7 @@ fn show_script(script: &[u8], entries: &[u8], out: &mut [u8]) -> usize
     ensures { λ r. ⌜ Shows (ofText (now (entries .entry)) (now (script .entry))) (now (out .entry)) r (now (out .exit)) ⌝ }
 {
     let mut table = [0u32; 1280];
-    let tabled = script::read(script, &mut table);
+    let tabled = engine::read(script, &mut table);
     match tabled {
         Tabled::Done => show_table(&table, entries, out),
         Tabled::Refused(n) => refuse(n, out),

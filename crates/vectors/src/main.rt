@@ -1,8 +1,8 @@
-// Plays every input of the file `vectors`, and counts those for which the bytes stored with them are written.
+// Plays every input of three files, and counts those for which the bytes stored with them are written: the worked examples of document 01,
+// inputs on points where it can be read twice, and inputs made at random.
 //
 // A record is the length of the input in five digits, a space, the length of what is to be written in five digits and the end of the line;
 // then the input, and what is to be written.
-
 ghost use mathlib.Core.Path.{_≡_};
 ghost use Prim.Native.Nat.{_+_, _≤_};
 ghost use lib.ListN.{length};
@@ -106,12 +106,21 @@ fn go_through(fd: i32, left: u64, agreed: u64)
     }
 }
 
-fn main() {
-    let fd = os::open_read(b"vectors");
+// Plays the records of the file with this name.
+fn play_file(name: &[u8]) {
+    let fd = os::open_read(name);
     if fd < 0 {
-        os::fail(b"vectors");
+        os::fail(name);
         return;
     }
+    io::write_all(1, name);
+    io::write_all(1, b": ");
     go_through(fd, RECORDS, 0);
     libc::close(fd);
+}
+
+fn main() {
+    play_file(b"worked");
+    play_file(b"readings");
+    play_file(b"random");
 }
