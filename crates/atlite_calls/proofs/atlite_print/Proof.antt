@@ -1,0 +1,19 @@
+-- `atlite_print` meets its contract. Assumes nothing.
+use borrow.Author.Needs.{needs}
+use Rattle.atlite_calls.specs.Numbers.{printLaws}
+use Rattle.atlite_calls.proofs.atlite_print.Statement.{statement}
+use Rattle.atlite_calls.proofs.atlite_print.Tie as tie
+
+pub atlite-print-spec : {M : Type 1} → statement M
+atlite-print-spec =
+    tie.close
+    (tie.spec
+    (λ c κs. search needs)  -- print-requires
+    (λ c. search needs)  -- enum-known-n
+    (λ c. search needs)  -- enum-known-n-2
+    (λ c. search needs)  -- cast-result
+    (λ c. search needs)  -- same-length
+    (λ c. search printLaws)  -- returns
+    (λ c. search needs)  -- same-length-2
+    (λ c. search printLaws)  -- returns-2
+    )

@@ -1,0 +1,19 @@
+-- `atlite_read` meets its contract. Assumes nothing.
+use borrow.Author.Needs.{needs}
+use Rattle.atlite_calls.specs.Numbers.{readLaws}
+use Rattle.atlite_calls.proofs.atlite_read.Statement.{statement}
+use Rattle.atlite_calls.proofs.atlite_read.Tie as tie
+
+pub atlite-read-spec : {M : Type 1} → statement M
+atlite-read-spec =
+    tie.close
+    (tie.spec
+    (λ c κs. search needs)  -- read-requires
+    (λ c. search needs)  -- enum-told
+    (λ c. search needs)  -- enum-known-n
+    (λ c. search needs)  -- cast-result
+    (λ c. search needs)  -- same-length
+    (λ c. search readLaws)  -- returns
+    (λ c. search needs)  -- same-length-2
+    (λ c. search readLaws)  -- returns-2
+    )

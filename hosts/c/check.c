@@ -1,0 +1,326 @@
+/*
+ * Tests of the calls from C: each answer, each refusal, and what they leave alone.
+ *
+ * Every buffer is lent so that it ends right before memory that cannot be touched, and buffers that a call only reads are made
+ * read-only. So an access past a length that was given, or a write to what is only read, ends the program.
+ */
+#define _GNU_SOURCE
+#include <stdint.h>
+#include <stdio.h>
+#include <stdlib.h>
+#include <string.h>
+#include <sys/mman.h>
+#include <unistd.h>
+
+#include "atlite.h"
+
+static int failures;
+
+static void expect(int holds, const char *what, int line)
+{
+    if (!holds) {
+        printf("check.c:%d: not so: %s\n", line, what);
+        failures += 1;
+    }
+}
+
+#define EXPECT(holds) expect((holds), #holds, __LINE__)
+
+/* Memory of some bytes, all of one value, that ends where nothing may be touched. */
+static void *lend(size_t bytes, int value)
+{
+    size_t page = (size_t)sysconf(_SC_PAGESIZE);
+    size_t pages = (bytes + page - 1) / page;
+    uint8_t *at = mmap(NULL, (pages + 1) * page, PROT_READ | PROT_WRITE, MAP_PRIVATE | MAP_ANONYMOUS, -1, 0);
+    if (at == MAP_FAILED || mprotect(at + pages * page, page, PROT_NONE) != 0) {
+        perror("check");
+        exit(2);
+    }
+    uint8_t *start = at + pages * page - bytes;
+    memset(start, value, bytes);
+    return start;
+}
+
+/* The same bytes where nothing can write to them. */
+static void *shut(const void *from, size_t bytes)
+{
+    size_t page = (size_t)sysconf(_SC_PAGESIZE);
+    uint8_t *start = lend(bytes, 0);
+    memcpy(start, from, bytes);
+    uint8_t *first = start - (uintptr_t)start % page;
+    if (bytes > 0 && mprotect(first, (size_t)(start + bytes - first), PROT_READ) != 0) {
+        perror("check");
+        exit(2);
+    }
+    return start;
+}
+
+static int all(const void *at, size_t bytes, int value)
+{
+    const uint8_t *b = at;
+    for (size_t i = 0; i < bytes; i += 1) {
+        if (b[i] != value) {
+            return 0;
+        }
+    }
+    return 1;
+}
+
+static uint32_t read_text(const char *text, uint32_t *table, size_t words)
+{
+    return atlite_read(shut(text, strlen(text)), strlen(text), table, words);
+}
+
+/* The state in which a script begins. */
+static uint32_t *begin(const char *text)
+{
+    uint32_t *table = lend(4 * ATLITE_TABLE_WORDS, 0);
+    uint32_t *state = lend(4 * ATLITE_STATE_WORDS, 0xaa);
+    EXPECT(read_text(text, table, ATLITE_TABLE_WORDS) == ATLITE_DONE);
+    EXPECT(atlite_load(shut(table, 4 * ATLITE_TABLE_WORDS), ATLITE_TABLE_WORDS, state, ATLITE_STATE_WORDS) == ATLITE_DONE);
+    return state;
+}
+
+/* Whether a state's listing is the text, in a buffer of exactly its length; one byte less is refused. */
+static int lists(const uint32_t *state, const char *text)
+{
+    size_t length = strlen(text);
+    size_t bytes = 77;
+    uint8_t *out = lend(length, 0x55);
+    const uint32_t *same = shut(state, 4 * ATLITE_STATE_WORDS);
+    uint8_t *less = lend(length - 1, 0x55);
+    EXPECT(atlite_list(same, ATLITE_STATE_WORDS, less, length - 1, &bytes) == ATLITE_SHORT);
+    EXPECT(all(less, length - 1, 0x55) && bytes == 77);
+    return atlite_list(same, ATLITE_STATE_WORDS, out, length, &bytes) == ATLITE_DONE && bytes == length && memcmp(out, text, length) == 0;
+}
+
+/* Moves an actor until it is refused and answers the cause. The refusal leaves the state and both places alone. */
+static uint32_t until_refused(uint32_t *state, uint8_t actor)
+{
+    uint32_t *before = lend(4 * ATLITE_STATE_WORDS, 0);
+    uint32_t cause, kind, other;
+    do {
+        memcpy(before, state, 4 * ATLITE_STATE_WORDS);
+        kind = 1000;
+        other = 2000;
+        cause = atlite_move(state, ATLITE_STATE_WORDS, actor, &kind, &other);
+    } while (cause == ATLITE_DONE);
+    EXPECT(memcmp(before, state, 4 * ATLITE_STATE_WORDS) == 0);
+    EXPECT(kind == 1000 && other == 2000);
+    return cause;
+}
+
+static void reading(void)
+{
+    static const struct {
+        const char *text;
+        uint32_t cause;
+    } refused[] = {
+        {"", ATLITE_TEXT_LENGTH},
+        {"(plus 2 3)", ATLITE_GRAMMAR},
+        {"(plus 2  3)\n", ATLITE_GRAMMAR},
+        {"(def x 1)\n", ATLITE_GRAMMAR},
+        {"01\n", ATLITE_GRAMMAR},
+        {"16777216\n", ATLITE_GRAMMAR},
+        {"(let x 1 y)\n", ATLITE_BINDING},
+        {"(def x 1)\n(actor (field a x))\n", ATLITE_BINDING},
+        {"(object (field a 1) (field a 2))\n", ATLITE_TWICE},
+        {"(future x x 1)\n", ATLITE_TWICE},
+    };
+    uint32_t *table = lend(4 * ATLITE_TABLE_WORDS, 0x33);
+    for (size_t i = 0; i < sizeof refused / sizeof refused[0]; i += 1) {
+        uint32_t cause = read_text(refused[i].text, table, ATLITE_TABLE_WORDS);
+        if (cause != refused[i].cause) {
+            printf("check.c: %u, not %u, for the text %s\n", (unsigned)cause, (unsigned)refused[i].cause, refused[i].text);
+            failures += 1;
+        }
+    }
+    EXPECT(read_text("(plus 2 3)\n", table, ATLITE_TABLE_WORDS - 1) == ATLITE_SHORT);
+    EXPECT(read_text("", table, 0) == ATLITE_SHORT);
+    EXPECT(all(table, 4 * ATLITE_TABLE_WORDS, 0x33));
+
+    /* 33 brackets open together, and texts of 4,096 and of 4,097 bytes */
+    static char deep[300];
+    for (int i = 0; i < 33; i += 1) {
+        strcat(deep, "(seq 1 ");
+    }
+    strcat(deep, "1");
+    for (int i = 0; i < 33; i += 1) {
+        strcat(deep, ")");
+    }
+    strcat(deep, "\n");
+    EXPECT(read_text(deep, table, ATLITE_TABLE_WORDS) == ATLITE_TOO_LARGE);
+    uint8_t *longest = lend(4097, '1');
+    for (size_t i = 8; i < 4096; i += 9) {
+        longest[i] = '\n';
+    }
+    longest[4095] = longest[4096] = '\n';
+    EXPECT(atlite_read(longest, 4096, table, ATLITE_TABLE_WORDS) == ATLITE_GRAMMAR);
+    EXPECT(atlite_read(longest, 4097, table, ATLITE_TABLE_WORDS) == ATLITE_TEXT_LENGTH);
+    EXPECT(all(table, 4 * ATLITE_TABLE_WORDS, 0x33));
+
+    /* words behind the table stay */
+    uint32_t *more = lend(4 * (ATLITE_TABLE_WORDS + 5), 0x33);
+    EXPECT(read_text("(plus 2 3)\n", more, ATLITE_TABLE_WORDS + 5) == ATLITE_DONE);
+    EXPECT(all(more + ATLITE_TABLE_WORDS, 4 * 5, 0x33));
+}
+
+static void printing(void)
+{
+    const char *text = "(def shop (actor (field rate 12)))\n(percent 250 12)\n";
+    uint32_t *table = lend(4 * ATLITE_TABLE_WORDS, 0);
+    EXPECT(read_text(text, table, ATLITE_TABLE_WORDS) == ATLITE_DONE);
+    const uint32_t *same = shut(table, 4 * ATLITE_TABLE_WORDS);
+    size_t bytes = 77;
+    uint8_t *out = lend(4200, 0x55);
+    EXPECT(atlite_print(same, ATLITE_TABLE_WORDS - 1, out, 4200, &bytes) == ATLITE_SHORT);
+    EXPECT(atlite_print(same, ATLITE_TABLE_WORDS, out, strlen(text) - 1, &bytes) == ATLITE_SHORT);
+    EXPECT(all(out, 4200, 0x55) && bytes == 77);
+    EXPECT(atlite_print(same, ATLITE_TABLE_WORDS, out, 4200, &bytes) == ATLITE_DONE);
+    EXPECT(bytes == strlen(text) && memcmp(out, text, bytes) == 0 && all(out + bytes, 4200 - bytes, 0x55));
+
+    /* words that are no table: all zero, and a table in which one bit of one word is another */
+    bytes = 77;
+    EXPECT(atlite_print(lend(4 * ATLITE_TABLE_WORDS, 0), ATLITE_TABLE_WORDS, out, 4200, &bytes) == ATLITE_NEITHER);
+    table[ATLITE_TABLE_WORDS - 1] ^= 1;
+    EXPECT(atlite_print(table, ATLITE_TABLE_WORDS, out, 4200, &bytes) == ATLITE_NEITHER);
+    EXPECT(bytes == 77);
+}
+
+static void loading(void)
+{
+    uint32_t *table = lend(4 * ATLITE_TABLE_WORDS, 0);
+    uint32_t *state = lend(4 * (ATLITE_STATE_WORDS + 3), 0x44);
+    EXPECT(read_text("(plus 2 3)\n", table, ATLITE_TABLE_WORDS) == ATLITE_DONE);
+    EXPECT(atlite_load(table, ATLITE_TABLE_WORDS - 1, state, ATLITE_STATE_WORDS) == ATLITE_SHORT);
+    EXPECT(atlite_load(table, ATLITE_TABLE_WORDS, state, ATLITE_STATE_WORDS - 1) == ATLITE_SHORT);
+    EXPECT(atlite_load(lend(4 * ATLITE_TABLE_WORDS, 0), ATLITE_TABLE_WORDS, state, ATLITE_STATE_WORDS) == ATLITE_NEITHER);
+
+    /* 200 lines are a text that is read; joined they are more than an expression may have */
+    static char many[2 * 200 + 1];
+    for (int i = 0; i < 200; i += 1) {
+        strcat(many, "1\n");
+    }
+    EXPECT(read_text(many, table, ATLITE_TABLE_WORDS) == ATLITE_DONE);
+    EXPECT(atlite_load(table, ATLITE_TABLE_WORDS, state, ATLITE_STATE_WORDS) == ATLITE_LIMIT);
+    EXPECT(all(state, 4 * (ATLITE_STATE_WORDS + 3), 0x44));
+
+    /* words behind the state stay; what the state's words held does not matter */
+    EXPECT(read_text("(plus 2 3)\n", table, ATLITE_TABLE_WORDS) == ATLITE_DONE);
+    EXPECT(atlite_load(table, ATLITE_TABLE_WORDS, state, ATLITE_STATE_WORDS + 3) == ATLITE_DONE);
+    EXPECT(all(state + ATLITE_STATE_WORDS, 4 * 3, 0x44));
+    EXPECT(memcmp(state, begin("(plus 2 3)\n"), 4 * ATLITE_STATE_WORDS) == 0);
+}
+
+static void moving(void)
+{
+    uint32_t kind, other;
+    uint32_t *state = begin("(send (actor (field a 1) (method put (n) (set this a n))) put 5)\n");
+    EXPECT(atlite_move(state, ATLITE_STATE_WORDS, 1, &kind, &other) == ATLITE_NO_ACTOR);
+    EXPECT(atlite_move(state, ATLITE_STATE_WORDS, 255, &kind, &other) == ATLITE_NO_ACTOR);
+    EXPECT(atlite_move(state, ATLITE_STATE_WORDS, 0, &kind, &other) == ATLITE_DONE && kind == ATLITE_CREATED && other == 1);
+    EXPECT(atlite_move(state, ATLITE_STATE_WORDS, 0, &kind, &other) == ATLITE_DONE && kind == ATLITE_SENT && other == 1);
+    EXPECT(until_refused(state, 0) == ATLITE_NOTHING);
+    EXPECT(atlite_move(state, ATLITE_STATE_WORDS, 1, &kind, &other) == ATLITE_DONE && kind == ATLITE_INNER && other == ATLITE_NO_OTHER);
+    EXPECT(atlite_move(state, ATLITE_STATE_WORDS, 1, &kind, &other) == ATLITE_DONE && kind == ATLITE_INNER);
+    EXPECT(atlite_move(state, ATLITE_STATE_WORDS, 1, &kind, &other) == ATLITE_DONE && kind == ATLITE_TAKEN && other == ATLITE_NO_OTHER);
+    EXPECT(until_refused(state, 1) == ATLITE_NOTHING);
+    EXPECT(lists(state, "(actor 0 2 0 0 null)\n"
+                        "(actor 1 5 1 0 5)\n"
+                        "(object 1 m 0 (field a 5) (method put (n) (set this a n)))\n"));
+
+    static const struct {
+        const char *text;
+        uint32_t cause;
+    } refused[] = {
+        {"(get null a)\n", ATLITE_RECEIVER},
+        {"(get (actor (field a 1)) a)\n", ATLITE_NOT_OWN},
+        {"(get (object (field a 1)) b)\n", ATLITE_NO_MEMBER},
+        {"(future f r (seq (call r apply 1) f))\n", ATLITE_NO_MEMBER},
+        {"(future f r (seq (resolve r 1) (resolve r 2)))\n", ATLITE_RESOLVED},
+        {"(plus 16777215 1)\n", ATLITE_ARITHMETIC},
+        {"(percent null 1)\n", ATLITE_ARITHMETIC},
+        {"(let o (object (method go (x) (plus 1 (call this go (plus x 1))))) (call o go 0))\n", ATLITE_LIMIT},
+    };
+    for (size_t i = 0; i < sizeof refused / sizeof refused[0]; i += 1) {
+        uint32_t cause = until_refused(begin(refused[i].text), 0);
+        if (cause != refused[i].cause) {
+            printf("check.c: %u, not %u, for moves of %s\n", (unsigned)cause, (unsigned)refused[i].cause, refused[i].text);
+            failures += 1;
+        }
+    }
+
+    /* too few words, and words that are no state */
+    uint32_t *words = lend(4 * ATLITE_STATE_WORDS, 0x66);
+    kind = 1000;
+    other = 2000;
+    EXPECT(atlite_move(words, ATLITE_STATE_WORDS - 1, 0, &kind, &other) == ATLITE_SHORT);
+    EXPECT(atlite_move(words, ATLITE_STATE_WORDS, 0, &kind, &other) == ATLITE_NEITHER);
+    EXPECT(all(words, 4 * ATLITE_STATE_WORDS, 0x66) && kind == 1000 && other == 2000);
+}
+
+static void running(void)
+{
+    size_t moves = 77, refusals = 88;
+    uint32_t *words = lend(4 * ATLITE_STATE_WORDS, 0x66);
+    const uint8_t *entries = shut("\0\1\1\4\377", 5);
+    EXPECT(atlite_run(words, ATLITE_STATE_WORDS - 1, entries, 5, &moves, &refusals) == ATLITE_SHORT);
+    EXPECT(atlite_run(words, ATLITE_STATE_WORDS, entries, 5, &moves, &refusals) == ATLITE_NEITHER);
+    EXPECT(all(words, 4 * ATLITE_STATE_WORDS, 0x66) && moves == 77 && refusals == 88);
+
+    uint32_t *state = begin("(actor (field a 1))\n");
+    EXPECT(atlite_run(state, ATLITE_STATE_WORDS, entries, 0, &moves, &refusals) == ATLITE_DONE && moves == 0 && refusals == 0);
+    EXPECT(lists(state, "(actor 0 0 0 0 (actor (field a 1)))\n"));
+    EXPECT(atlite_run(state, ATLITE_STATE_WORDS, entries, 5, &moves, &refusals) == ATLITE_DONE && moves == 3 && refusals == 2);
+    EXPECT(lists(state, "(actor 0 1 0 0 (ref 1 m 0))\n(actor 1 2 1 0 (ref 1 m 0))\n(object 1 m 0 (field a 1))\n"));
+
+    /* words behind the state stay */
+    uint32_t *more = lend(4 * (ATLITE_STATE_WORDS + 3), 0x44);
+    memcpy(more, begin("(plus 2 3)\n"), 4 * ATLITE_STATE_WORDS);
+    EXPECT(atlite_run(more, ATLITE_STATE_WORDS + 3, entries, 1, &moves, &refusals) == ATLITE_DONE && moves == 1);
+    EXPECT(all(more + ATLITE_STATE_WORDS, 4 * 3, 0x44));
+    EXPECT(lists(more, "(actor 0 1 0 0 5)\n"));
+
+    /* one run and many moves come to the same */
+    const char *script = "(def o (object (field n 0) (method up (k) (seq (set this n (plus (get this n) k)) (send this up 1)))))\n(call o up 1)\n";
+    uint32_t *once = begin(script);
+    uint32_t *often = begin(script);
+    const uint8_t *zeros = lend(500, 0);
+    size_t made = 0;
+    for (int i = 0; i < 500; i += 1) {
+        uint32_t kind, other;
+        made += atlite_move(often, ATLITE_STATE_WORDS, 0, &kind, &other) == ATLITE_DONE;
+    }
+    EXPECT(atlite_run(once, ATLITE_STATE_WORDS, zeros, 500, &moves, &refusals) == ATLITE_DONE);
+    EXPECT(moves == made && moves + refusals == 500 && made > 400);
+    EXPECT(memcmp(once, often, 4 * ATLITE_STATE_WORDS) == 0);
+}
+
+static void listing(void)
+{
+    size_t bytes = 77;
+    uint8_t *out = lend(100, 0x55);
+    uint32_t *state = begin("null\n");
+    EXPECT(atlite_list(state, ATLITE_STATE_WORDS - 1, out, 100, &bytes) == ATLITE_SHORT);
+    EXPECT(atlite_list(state, ATLITE_STATE_WORDS, out, 0, &bytes) == ATLITE_SHORT);
+    state[ATLITE_STATE_WORDS - 1] = 1;
+    EXPECT(atlite_list(state, ATLITE_STATE_WORDS, out, 100, &bytes) == ATLITE_NEITHER);
+    EXPECT(all(out, 100, 0x55) && bytes == 77);
+    state[ATLITE_STATE_WORDS - 1] = 0;
+    EXPECT(atlite_list(state, ATLITE_STATE_WORDS, out, 100, &bytes) == ATLITE_DONE);
+    EXPECT(bytes == 21 && memcmp(out, "(actor 0 0 0 0 null)\n", 21) == 0 && all(out + 21, 79, 0x55));
+}
+
+int main(void)
+{
+    reading();
+    printing();
+    loading();
+    moving();
+    running();
+    listing();
+    if (failures == 0) {
+        printf("check: all as it should be\n");
+    }
+    return failures != 0;
+}
