@@ -1,0 +1,578 @@
+//! States and tables as the machine words that the proved engine publishes, written from its page on the layout alone.
+//!
+//! A term is its nodes in Polish notation, one word each: the kind in the top byte, what it says below, digits low first.
+//! `apply` has a number of its own, so a dictionary in words leaves it out.
+
+use std::sync::Arc;
+
+use crate::script::{self, Expr, Line, Table, Word};
+use crate::state::*;
+use crate::term::{Hidden, Invocation, Literal, Method, Name, Term, Var};
+
+/// Words of a state.
+pub const STATE: usize = 16_384;
+/// Words of a table.
+pub const TABLE: usize = 1_280;
+
+/// Where the parts of a state begin, and the words of an actor's part.
+const HEAD: usize = 256;
+const PART: usize = 3_200;
+
+/// Where the regions of an actor's part begin.
+const EXPRESSION: usize = 16;
+const INBOX: usize = 528;
+const WAITING: usize = 624;
+const MADE: usize = 720;
+const COPIES: usize = 976;
+const METHODS: usize = 1_104;
+
+/// Words of a message and of an entity.
+const MESSAGE: usize = 6;
+const SLOT: usize = 8;
+
+/// The names that no dictionary has: `this`, six hidden ones, and `apply`.
+const APPLY: u32 = 7;
+const HIDDEN: [Hidden; 6] = [Hidden::T, Hidden::F, Hidden::R, Hidden::L, Hidden::S, Hidden::X];
+
+fn node(kind: u32, payload: usize) -> u32 {
+    kind << 24 | payload as u32
+}
+
+/// The words of a dictionary in words, and the numbers that go with them.
+struct Names<'s> {
+    words: &'s [String],
+}
+
+impl Names<'_> {
+    fn known(&self) -> Vec<&String> {
+        self.words.iter().filter(|word| *word != "apply").collect()
+    }
+
+    fn word(&self, word: Word) -> usize {
+        let text = &self.words[usize::from(word.0)];
+        self.known().iter().position(|known| *known == text).map_or(APPLY as usize, |at| 8 + at)
+    }
+
+    fn var(&self, var: Var) -> usize {
+        match var {
+            Var::Word(word) => self.word(word),
+            Var::Hidden(hidden) => 1 + HIDDEN.iter().position(|known| *known == hidden).unwrap_or(0),
+        }
+    }
+
+    /// Three words an entry, the first byte lowest.
+    fn dictionary(&self) -> Vec<u32> {
+        let known = self.known();
+        let bytes = known.iter().flat_map(|word| word.bytes().chain(std::iter::repeat(0)).take(12));
+        let bytes: Vec<u8> = bytes.collect();
+        bytes.chunks(4).map(|four| u32::from_le_bytes([four[0], four[1], four[2], four[3]])).collect()
+    }
+
+    fn header(&self, name: Word, params: &[Var]) -> u32 {
+        let mut places = [127; 3];
+        params.iter().zip(&mut places).for_each(|(param, place)| *place = self.var(*param));
+        let places = places[0] | places[1] << 7 | places[2] << 14;
+        3 << 30 | (self.word(name) | params.len() << 7 | places << 9) as u32
+    }
+
+    /// The node of a call or a send; the names that only expansion brings in have a tag and no word.
+    fn invoked(&self, kind: u32, name: Name, args: usize) -> u32 {
+        let (word, tag) = match name {
+            Name::Plain(word) => (self.word(word), 0),
+            Name::TwoWay(word) => (self.word(word), 1),
+            Name::Resolve => (0, 2),
+            Name::Register => (0, 3),
+        };
+        node(kind, word | tag << 7 | args << 9)
+    }
+
+    fn message(&self, message: &Message) -> Vec<u32> {
+        let mut words = vec![self.invoked(14, message.name, message.args.len()), value(Value::Ref(message.receiver))];
+        words.extend(message.args.iter().map(|arg| value(*arg)));
+        words.resize(MESSAGE, 0);
+        words
+    }
+
+    fn methods(&self, methods: &[Method], out: &mut Vec<u32>) {
+        for method in methods {
+            out.push(self.header(method.name, &method.params));
+            self.term(&method.body, out);
+        }
+    }
+
+    fn literal(&self, kind: u32, literal: &Literal, out: &mut Vec<u32>) {
+        out.push(node(kind, literal.fields.len() | literal.methods.len() << 3));
+        for (name, init) in &literal.fields {
+            out.push(node(128, self.word(*name)));
+            self.term(init, out);
+        }
+        self.methods(&literal.methods, out);
+    }
+
+    fn invocation(&self, kind: u32, invocation: &Invocation, out: &mut Vec<u32>) {
+        out.push(self.invoked(kind, invocation.name, invocation.args.len()));
+        self.term(&invocation.receiver, out);
+        invocation.args.iter().for_each(|arg| self.term(arg, out));
+    }
+
+    fn pair(&self, node: u32, pair: &(Term, Term), out: &mut Vec<u32>) {
+        out.push(node);
+        self.term(&pair.0, out);
+        self.term(&pair.1, out);
+    }
+
+    fn term(&self, term: &Term, out: &mut Vec<u32>) {
+        match term {
+            Term::Value(it) => out.push(value(*it)),
+            Term::Var(var) => out.push(node(6, self.var(*var))),
+            Term::This => out.push(node(6, 0)),
+            Term::Plus(pair) => self.pair(node(7, 0), pair, out),
+            Term::Percent(pair) => self.pair(node(8, 0), pair, out),
+            Term::Get(name, part) => {
+                out.push(node(9, self.word(*name)));
+                self.term(part, out);
+            }
+            Term::Set(name, pair) => self.pair(node(10, self.word(*name)), pair, out),
+            Term::Let(name, pair) => self.pair(node(11, self.var(*name)), pair, out),
+            Term::Future(f, r, body) => {
+                out.push(node(12, self.var(*f) | self.var(*r) << 7));
+                self.term(body, out);
+            }
+            Term::Call(invocation) => self.invocation(13, invocation, out),
+            Term::Send(invocation) => self.invocation(14, invocation, out),
+            Term::Object(literal) => self.literal(15, literal, out),
+            Term::Isolate(literal) => self.literal(16, literal, out),
+            Term::Actor(literal) => self.literal(17, literal, out),
+        }
+    }
+
+    /// The slot of an object or isolate; its methods go behind those that are there.
+    fn parts(&self, kind: usize, number: usize, parts: &Parts, methods: &mut Vec<u32>) -> [u32; SLOT] {
+        let before = methods.len();
+        self.methods(&parts.methods, methods);
+        let mut slot = [0; SLOT];
+        slot[0] = head(kind, parts.fields.len(), parts.methods.len(), number);
+        for (at, (name, it)) in parts.fields.iter().enumerate() {
+            slot[1] |= (self.word(*name) << (7 * at)) as u32;
+            slot[2 + at] = value(*it);
+        }
+        slot[6] = (methods.len() - before) as u32;
+        slot
+    }
+
+    fn entity(&self, number: usize, entity: &Entity, methods: &mut Vec<u32>) -> [u32; SLOT] {
+        let mut slot = [0; SLOT];
+        match entity {
+            Entity::Object(parts) => return self.parts(1, number, parts, methods),
+            Entity::Isolate(parts) => return self.parts(2, number, parts, methods),
+            Entity::Future(Future::Open(_)) => slot[0] = head(3, 0, 0, number),
+            Entity::Future(Future::Resolved(it)) => (slot[0], slot[2]) = (head(4, 0, 0, number), value(*it)),
+            Entity::Resolver(future) => (slot[0], slot[2]) = (head(5, 0, 0, number), future.0.into()),
+        }
+        slot
+    }
+
+    fn actor(&self, actor: &Actor) -> Vec<u32> {
+        let (mut part, mut expression, mut methods) = (vec![0; PART], Vec::new(), Vec::new());
+        self.term(&actor.expression, &mut expression);
+        let waiting: Vec<u32> = waiting(actor).flat_map(|message| self.message(message)).collect();
+        let inbox: Vec<u32> = actor.inbox.iter().flat_map(|message| self.message(message)).collect();
+        let made: Vec<u32> =
+            actor.made.iter().enumerate().flat_map(|(at, entity)| self.entity(at, entity, &mut methods)).collect();
+        let copies: Vec<u32> =
+            actor.copies.iter().enumerate().flat_map(|(at, parts)| self.parts(2, at, parts, &mut methods)).collect();
+        let counts = [
+            actor.moves,
+            actor.made.len() as u32,
+            actor.copies.len() as u32,
+            actor.inbox.len() as u32,
+            (waiting.len() / MESSAGE) as u32,
+            expression.len() as u32,
+        ];
+        put(&mut part, 0, &counts);
+        put(&mut part, EXPRESSION, &expression);
+        put(&mut part, INBOX, &inbox);
+        put(&mut part, WAITING, &waiting);
+        put(&mut part, MADE, &made);
+        put(&mut part, COPIES, &copies);
+        put(&mut part, METHODS, &methods);
+        part
+    }
+
+    /// An expression of a script, in the forms that are written.
+    fn expr(&self, expr: &Expr, out: &mut Vec<u32>) {
+        let (node, parts): (u32, Vec<&Expr>) = match expr {
+            Expr::Number(number) => (node(2, *number as usize), vec![]),
+            Expr::Var(word) => (node(6, self.word(*word)), vec![]),
+            Expr::Null => (node(1, 0), vec![]),
+            Expr::This => (node(6, 0), vec![]),
+            Expr::Plus(a, b) => (node(7, 0), vec![a, b]),
+            Expr::Percent(a, b) => (node(8, 0), vec![a, b]),
+            Expr::Get(a, name) => (node(9, self.word(*name)), vec![a]),
+            Expr::Set(a, name, b) => (node(10, self.word(*name)), vec![a, b]),
+            Expr::Let(name, a, b) => (node(11, self.word(*name)), vec![a, b]),
+            Expr::Future(f, r, a) => (node(12, self.word(*f) | self.word(*r) << 7), vec![a]),
+            Expr::Call(a, name, args) => (self.invoked(13, Name::Plain(*name), args.len()), with(a, args)),
+            Expr::Send(a, name, args) => (self.invoked(14, Name::Plain(*name), args.len()), with(a, args)),
+            Expr::Ask(a, name, args) => (self.invoked(64, Name::Plain(*name), args.len()), with(a, args)),
+            Expr::Fn(name, a) => (node(65, self.word(*name)), vec![a]),
+            Expr::Resolve(a, b) => (node(66, 0), vec![a, b]),
+            Expr::When(a, name, b) => (node(67, self.word(*name)), vec![a, b]),
+            Expr::Seq(a, b) => (node(68, 0), vec![a, b]),
+            Expr::Object(literal) => return self.written(15, literal, out),
+            Expr::Isolate(literal) => return self.written(16, literal, out),
+            Expr::Actor(literal) => return self.written(17, literal, out),
+        };
+        out.push(node);
+        parts.into_iter().for_each(|part| self.expr(part, out));
+    }
+
+    fn written(&self, kind: u32, literal: &script::Literal, out: &mut Vec<u32>) {
+        out.push(node(kind, literal.fields.len() | literal.methods.len() << 3));
+        for field in &literal.fields {
+            out.push(node(128, self.word(field.name)));
+            self.expr(&field.init, out);
+        }
+        for method in &literal.methods {
+            let params: Vec<Var> = method.params.iter().map(|word| Var::Word(*word)).collect();
+            out.push(self.header(method.name, &params));
+            self.expr(&method.body, out);
+        }
+    }
+}
+
+fn with<'e>(first: &'e Expr, rest: &'e [Expr]) -> Vec<&'e Expr> {
+    std::iter::once(first).chain(rest).collect()
+}
+
+fn head(kind: usize, fields: usize, methods: usize, number: usize) -> u32 {
+    (kind | fields << 3 | methods << 6 | number << 9) as u32
+}
+
+fn value(value: Value) -> u32 {
+    match value {
+        Value::Null => node(1, 0),
+        Value::Number(number) => node(2, number as usize),
+        Value::Ref(Ref { owner, entity }) => {
+            let (number, series) = match entity {
+                EntityNo::Made(number) => (number.0, 0),
+                EntityNo::Copy(number) => (number.0, 1),
+            };
+            node(3, usize::from(number) | series << 16 | usize::from(owner.0) << 17)
+        }
+    }
+}
+
+/// The messages that wait, by future.
+fn waiting(actor: &Actor) -> impl Iterator<Item = &Message> {
+    actor.made.iter().flat_map(|entity| match entity {
+        Entity::Future(Future::Open(messages)) => messages.as_slice(),
+        _ => &[],
+    })
+}
+
+fn put(words: &mut [u32], at: usize, these: &[u32]) {
+    words[at..at + these.len()].copy_from_slice(these);
+}
+
+/// The words of a state.
+pub fn encode(state: &State) -> Vec<u32> {
+    let names = Names { words: &state.words };
+    let mut words = vec![0; STATE];
+    words[0] = state.actors.len() as u32;
+    words[1] = names.known().len() as u32;
+    put(&mut words, 2, &names.dictionary());
+    for (at, actor) in state.actors.iter().enumerate() {
+        put(&mut words, HEAD + PART * at, &names.actor(actor));
+    }
+    words
+}
+
+/// The words of a table.
+pub fn encode_table(table: &Table) -> Vec<u32> {
+    let names = Names { words: &table.words };
+    let (mut words, mut lines) = (vec![0; TABLE], Vec::new());
+    for line in &table.script.lines {
+        let expr = match line {
+            Line::Def(name, expr) => {
+                lines.push(node(130, names.word(*name)));
+                expr
+            }
+            Line::Expr(expr) => expr,
+        };
+        names.expr(expr, &mut lines);
+    }
+    put(&mut words, 0, &[names.known().len() as u32, table.script.lines.len() as u32, lines.len() as u32]);
+    put(&mut words, 3, &names.dictionary());
+    put(&mut words, HEAD, &lines);
+    words
+}
+
+/// Reads words in their order. Words that are no state make it give nothing, or a state that has other words.
+struct Reader<'w> {
+    words: &'w [u32],
+    at: usize,
+    /// The place of `apply` in the dictionary that comes out.
+    apply: u16,
+}
+
+impl Reader<'_> {
+    fn next(&mut self) -> Option<(u32, usize)> {
+        let word = *self.words.get(self.at)?;
+        self.at += 1;
+        Some((word >> 24, (word & 0xff_ffff) as usize))
+    }
+
+    fn word(&self, name: usize) -> Option<Word> {
+        match name {
+            0..=6 => None,
+            7 => Some(Word(self.apply)),
+            _ => Some(Word(name as u16 - 8)),
+        }
+    }
+
+    fn var(&self, name: usize) -> Option<Var> {
+        match name {
+            1..=6 => Some(Var::Hidden(HIDDEN[name - 1])),
+            _ => self.word(name).map(Var::Word),
+        }
+    }
+
+    fn value(&mut self) -> Option<Value> {
+        match self.term()? {
+            Term::Value(value) => Some(value),
+            _ => None,
+        }
+    }
+
+    fn pair(&mut self) -> Option<Box<(Term, Term)>> {
+        Some(Box::new((self.term()?, self.term()?)))
+    }
+
+    fn name(&self, payload: usize) -> Option<Name> {
+        match payload >> 7 & 3 {
+            0 => self.word(payload & 127).map(Name::Plain),
+            1 => self.word(payload & 127).map(Name::TwoWay),
+            2 => Some(Name::Resolve),
+            _ => Some(Name::Register),
+        }
+    }
+
+    fn invocation(&mut self, payload: usize) -> Option<Invocation> {
+        let (name, receiver) = (self.name(payload)?, self.term()?);
+        let args = (0..payload >> 9).map(|_| self.term()).collect::<Option<_>>()?;
+        Some(Invocation { receiver, name, args })
+    }
+
+    fn methods(&mut self, count: usize) -> Option<Vec<Method>> {
+        (0..count).map(|_| self.method()).collect()
+    }
+
+    fn method(&mut self) -> Option<Method> {
+        let word = *self.words.get(self.at)? as usize;
+        self.at += 1;
+        let params = (0..word >> 7 & 3).map(|at| self.var(word >> (9 + 7 * at) & 127)).collect::<Option<_>>()?;
+        Some(Method::new(self.word(word & 127)?, params, self.term()?))
+    }
+
+    fn literal(&mut self, payload: usize) -> Option<Box<Literal>> {
+        let fields = (0..payload & 7).map(|_| self.field()).collect::<Option<_>>()?;
+        Some(Box::new(Literal { fields, methods: self.methods(payload >> 3)? }))
+    }
+
+    fn field(&mut self) -> Option<(Word, Term)> {
+        let (_, name) = self.next()?;
+        Some((self.word(name)?, self.term()?))
+    }
+
+    fn term(&mut self) -> Option<Term> {
+        let (kind, payload) = self.next()?;
+        Some(match kind {
+            1 => Term::Value(Value::Null),
+            2 => Term::number(payload as u32),
+            3 => Term::Value(Value::Ref(reference(payload))),
+            6 if payload == 0 => Term::This,
+            6 => Term::Var(self.var(payload)?),
+            7 => Term::Plus(self.pair()?),
+            8 => Term::Percent(self.pair()?),
+            9 => Term::Get(self.word(payload)?, Box::new(self.term()?)),
+            10 => Term::Set(self.word(payload)?, self.pair()?),
+            11 => Term::Let(self.var(payload)?, self.pair()?),
+            12 => Term::Future(self.var(payload & 127)?, self.var(payload >> 7)?, Box::new(self.term()?)),
+            13 => Term::Call(Box::new(self.invocation(payload)?)),
+            14 => Term::Send(Box::new(self.invocation(payload)?)),
+            15 => Term::Object(self.literal(payload)?),
+            16 => Term::Isolate(self.literal(payload)?),
+            17 => Term::Actor(self.literal(payload)?),
+            _ => return None,
+        })
+    }
+
+    fn message(&mut self, at: usize) -> Option<Message> {
+        self.at = at;
+        let (_, payload) = self.next()?;
+        let name = self.name(payload)?;
+        let Value::Ref(receiver) = self.value()? else { return None };
+        let args = (0..payload >> 9).map(|_| self.value()).collect::<Option<_>>()?;
+        Some(Message { receiver, name, args })
+    }
+
+    fn messages(&mut self, at: usize, count: u32) -> Option<Vec<Message>> {
+        (0..count as usize).map(|number| self.message(at + MESSAGE * number)).collect()
+    }
+
+    /// The entity in the slot at `at`, its methods at `methods`, which then stands behind them.
+    fn entity(&mut self, at: usize, methods: &mut usize, waiting: &[Message]) -> Option<Entity> {
+        let (slot, number) = (self.words.get(at..at + SLOT)?, at.checked_sub(MADE)? / SLOT);
+        let first = slot[2];
+        match slot[0] & 7 {
+            3 => {
+                let own = |message: &&Message| message.receiver.entity == EntityNo::Made(MadeNo(number as u8));
+                Some(Entity::Future(Future::Open(waiting.iter().filter(own).cloned().collect())))
+            }
+            4 => {
+                self.at = at + 2;
+                Some(Entity::Future(Future::Resolved(self.value()?)))
+            }
+            5 => Some(Entity::Resolver(MadeNo(first as u8))),
+            1 => Some(Entity::Object(self.parts(at, methods)?)),
+            _ => Some(Entity::Isolate(self.parts(at, methods)?)),
+        }
+    }
+
+    fn parts(&mut self, at: usize, methods: &mut usize) -> Option<Parts> {
+        let slot = self.words.get(at..at + SLOT)?;
+        self.at = at + 2;
+        let named = |place: usize| (slot[1] >> (7 * place) & 127) as usize;
+        let fields = (0..(slot[0] >> 3 & 7) as usize)
+            .map(|place| Some((self.word(named(place))?, self.value()?)))
+            .collect::<Option<_>>()?;
+        self.at = *methods;
+        let found = self.methods((slot[0] >> 6 & 7) as usize)?;
+        *methods = self.at;
+        Some(Parts { fields, methods: found.into() })
+    }
+
+    fn actor(&mut self) -> Option<Actor> {
+        let counts = self.words.get(..6)?;
+        let waiting = self.messages(WAITING, counts[4])?;
+        let inbox = self.messages(INBOX, counts[3])?;
+        let mut methods = METHODS;
+        let made = (0..counts[1] as usize)
+            .map(|number| self.entity(MADE + SLOT * number, &mut methods, &waiting))
+            .collect::<Option<_>>()?;
+        let copies = (0..counts[2] as usize)
+            .map(|number| self.parts(COPIES + SLOT * number, &mut methods))
+            .collect::<Option<_>>()?;
+        self.at = EXPRESSION;
+        let mut actor = Actor::new(made, self.term()?);
+        (actor.moves, actor.copies, actor.inbox) = (counts[0], copies, inbox.into());
+        actor.counts = actor.counted();
+        Some(actor)
+    }
+}
+
+fn reference(payload: usize) -> Ref {
+    let number = (payload & 0xffff) as u8;
+    let entity = match payload >> 16 & 1 {
+        0 => EntityNo::Made(MadeNo(number)),
+        _ => EntityNo::Copy(CopyNo(number)),
+    };
+    Ref { owner: ActorNo((payload >> 17) as u8), entity }
+}
+
+/// The state that words are. `apply` comes last in its dictionary, wherever a script had it.
+pub fn decode(words: &[u32]) -> Option<State> {
+    let known = *words.get(1)? as usize;
+    let mut dictionary = Vec::new();
+    for entry in words.get(2..2 + 3 * known)?.chunks(3) {
+        let bytes = entry.iter().flat_map(|word| word.to_le_bytes()).filter(|byte| *byte != 0).collect();
+        dictionary.push(String::from_utf8(bytes).ok()?);
+    }
+    dictionary.push("apply".to_owned());
+    let actors = (0..words[0] as usize)
+        .map(|at| {
+            let words = words.get(HEAD + PART * at..HEAD + PART * (at + 1))?;
+            Reader { words, at: 0, apply: known as u16 }.actor()
+        })
+        .collect::<Option<_>>()?;
+    let state = State { words: Arc::from(dictionary), apply: Word(known as u16), actors };
+    (encode(&state) == words).then_some(state)
+}
+
+#[cfg(test)]
+mod tests {
+    use super::*;
+    use crate::generate::{input, rng::Rng};
+    use crate::loops::split;
+    use crate::{load, read, run, step};
+
+    #[test]
+    fn a_first_state_in_words() {
+        let state = load(&read(b"(let x 5 (percent x 12))\n").unwrap()).unwrap();
+        let words = encode(&state);
+        assert_eq!(words.len(), STATE);
+        let there: Vec<(usize, u32)> = words.iter().copied().enumerate().filter(|(_, word)| *word != 0).collect();
+        assert_eq!(
+            there,
+            [
+                (0, 1),
+                (1, 1),
+                (2, 120),
+                (261, 5),
+                (272, 11 << 24 | 8),
+                (273, 2 << 24 | 5),
+                (274, 8 << 24),
+                (275, 6 << 24 | 8),
+                (276, 2 << 24 | 12)
+            ]
+        );
+    }
+
+    #[test]
+    fn a_table_in_words() {
+        let table = read(b"(def o (object (method m (x) x)))\n(ask o m (fn y 1))\n").unwrap();
+        let words = encode_table(&table);
+        assert_eq!(words.len(), TABLE);
+        let header = 3 << 30 | 9 | 1 << 7 | 10 << 9 | 127 << 16 | 127 << 23;
+        let lines = [130 << 24 | 8, 15 << 24 | 1 << 3, header, 6 << 24 | 10, 64 << 24 | 9 | 1 << 9, 6 << 24 | 8];
+        assert_eq!(words[..3], [4, 2, 8]);
+        assert_eq!(words[256..262], lines);
+        assert_eq!(words[262..266], [65 << 24 | 11, 2 << 24 | 1, 0, 0]);
+    }
+
+    /// Every state on the way of many scripts comes back from its words. Dictionaries have `apply` last, so that
+    /// states are the same and not only alike.
+    #[test]
+    fn what_is_encoded_is_decoded() {
+        let (mut rng, mut seen) = (Rng::new(7), 0);
+        while seen < 2000 {
+            let input = input(&mut rng);
+            let Some(table) = split(&input).and_then(|(_, text)| read(text).ok()) else { continue };
+            let Ok(mut state) = load(&table) else { continue };
+            if usize::from(state.apply.0) + 1 != state.words.len() {
+                continue;
+            }
+            let (schedule, _) = split(&input).unwrap();
+            for (at, actor) in schedule.iter().enumerate() {
+                let _ = step(&mut state, *actor);
+                if at % 7 == 0 {
+                    assert_eq!(decode(&encode(&state)), Some(state.clone()));
+                    seen += 1;
+                }
+            }
+        }
+    }
+
+    #[test]
+    fn a_word_more_is_no_state() {
+        let mut state = load(&read(b"(send (object (field a 1)) m)\n").unwrap()).unwrap();
+        run(&mut state, &[0; 4]);
+        let words = encode(&state);
+        for at in [255, 256 + 6, 256 + 519, 256 + 727, STATE - 1] {
+            let mut other = words.clone();
+            other[at] += 1;
+            assert_eq!(decode(&other), None, "{at}");
+        }
+    }
+}
