@@ -1,7 +1,7 @@
 -- Where methods and an expression end, as the crate `wellformed` answers it, says where they stand. Assumes nothing.
 use Prim.Native.Nat.{ℕ, _≤_}
-use mathlib.Core.Path.{_≡_, refl, ap}
-use mathlib.Core.Bool.{Bool, true, false, cond}
+use mathlib.Core.Path.{_≡_, refl}
+use mathlib.Core.Bool.{Bool, true, false}
 use mathlib.Core.List.{List, [], _∷_}
 use native.Mathlib.Omega.{arith}
 use lib.ListN.{length}
@@ -11,7 +11,7 @@ use Rattle.atlite.specs.Valid.{namesWithin, HeldBy, unreferring}
 use Rattle.atlite.specs.ValidTest.{wellFormed, wellFormedMethods}
 use Rattle.atlite.specs.Facts.{and₂, both₂}
 use Rattle.invariant.specs.TermTests.{Is, wf-to, wf-from, methods-to, methods-from}
-use Rattle.layout.specs.Parse.{Got, none, got, parseMethods}
+use Rattle.layout.specs.Parse.{got, parseMethods}
 use Rattle.layout.specs.ParseLaws.{parse, parse-iff, methods-iff}
 use Rattle.wellformed.specs.Kinds.{allowed}
 use Rattle.wellformed.specs.Words.{holds}

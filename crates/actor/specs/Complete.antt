@@ -21,7 +21,7 @@ use Rattle.layout.specs.Layout.{encodeMessage, slots, bodies, queues, encodeAct
 use Rattle.layout.specs.Slots.{slots-length, queues-fit}
 use Rattle.layout.specs.Parts.{ActorFits, messages-length, r0, r5, r6, counts, regions, at16, at528, at624, at720, at976, at1104}
 use Rattle.layout.specs.Holds.{WithinActor, within-to}
-use Rattle.layout.specs.Arity.{nodesIn, nodes-append, term-nodes}
+use Rattle.layout.specs.Arity.{nodesIn, nodes-append, term-nodes, bodies-nodes}
 use Rattle.layout.specs.Parse.{zerosAt}
 use Rattle.layout.specs.Spans.{Spans}
 use Rattle.wellformed.specs.Kinds.{allowed, futureBy}
@@ -32,7 +32,7 @@ use Rattle.actor.specs.Entities.{made-complete, copied-complete}
 use Rattle.actor.specs.Series.{whole-each, span-split, slots-complete}
 use Rattle.actor.specs.Queues.{slots-kind}
 use Rattle.actor.specs.Orders.{Kinds, queues-ordered}
-use Rattle.actor.specs.Regions.{region-complete, span-in, span-front, bodies-nodes, tail-zeros}
+use Rattle.actor.specs.Regions.{region-complete, span-in, span-front, tail-zeros}
 use Rattle.actor.specs.Judges.{IsPart, Ends}
 
 module _ (K : List ℕ) (a W : ℕ) (w : List ℕ) (few : W ≤ 64) (l : a < 128) where

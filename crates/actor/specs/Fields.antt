@@ -13,6 +13,7 @@ use Rattle.atlite.specs.Term.{Value}
 use Rattle.atlite.specs.State.{Field, field, fieldNames, fieldValues}
 use Rattle.atlite.specs.Valid.{All, isName, namesWithin, FieldsHeld}
 use Rattle.atlite.specs.Facts.{and₂, and₃, and₄, both₂, both₃, both₄}
+use Rattle.invariant.specs.Arrivals.{fields-all}
 use Rattle.invariant.specs.TermTests.{Is, all-is, is-all}
 use Rattle.layout.specs.Pack.{zeros, pad, names}
 use Rattle.layout.specs.PackLaws.{pack-low, pack-high, length-pad, pad-front, Each, NameFits, names-back}
@@ -72,11 +73,6 @@ held-all : (P : Value → Type 0) (F : List Field) → All P (fieldValues F) →
 unfolding fieldValues
 held-all P [] h = tt
 held-all P (field f v ∷ F) h = (h .0, held-all P F (h .1))
-
-all-held : (P : Value → Type 0) (F : List Field) → FieldsHeld P F → All P (fieldValues F)
-unfolding fieldValues
-all-held P [] h = tt
-all-held P (field f v ∷ F) h = (h .0, all-held P F (h .1))
 
 -- the five words behind a slot's head
 unfoldable pub fieldWords : List Field → List ℕ
@@ -142,4 +138,4 @@ module _ (K : List ℕ) (a W : ℕ) (w : List ℕ) (few : W ≤ 64) where
       let g = and₃ (leb (length xs) 4) (distinct xs) (all (isName W) xs) (h .1) in
       let n : namesHold W f (getD w (at + 1) 0) ≡ true = rw (drop-first w (at + 1) x _ d, ← cn) (word-names W xs (h .3 .1) (g .1) (g .2)) in
       let v : valuesAt w f (at + 2) ≡ some vs = ap (λ i. valuesAt w i (at + 2)) (sym cv) ∙ values-read vs w (at + 2) z (h .3 .2) d2 in
-      both₄ (lt-ltb f 5 (omega arith)) n (some-within (all (allowed K a)) (valuesAt w f (at + 2)) vs v (is-all (allowed K a) P (λ y k. k) vs (all-held P F (h .2)))) (zeros-read (4 - f) w (at + 2 + f) r d3)
+      both₄ (lt-ltb f 5 (omega arith)) n (some-within (all (allowed K a)) (valuesAt w f (at + 2)) vs v (is-all (allowed K a) P (λ y k. k) vs (fields-all P F (h .2)))) (zeros-read (4 - f) w (at + 2 + f) r d3)

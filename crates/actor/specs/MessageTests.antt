@@ -2,7 +2,7 @@
 -- `parseMessage`, whose own tests are those of the code, so each way goes through what was got. Assumes nothing.
 use Prim.Native.Nat.{ℕ, _+_, _-_, _≤_, _/_, _%_}
 use mathlib.Core.Path.{_≡_, refl}
-use mathlib.Core.Bool.{Bool, true, false, false≢true}
+use mathlib.Core.Bool.{Bool, true}
 use mathlib.Core.List.{List, _++_}
 use mathlib.Core.Option.{Option, none, some}
 use native.Mathlib.Omega.{arith}

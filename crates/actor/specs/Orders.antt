@@ -15,10 +15,10 @@ use Rattle.invariant.specs.TermTests.{Is}
 use Rattle.layout.specs.PackLaws.{Each}
 use Rattle.layout.specs.Layout.{queue, queues}
 use Rattle.layout.specs.Decode.{aim, aimOf}
-use Rattle.layout.specs.Slots.{EntityFits, EntitiesFit}
+use Rattle.layout.specs.Slots.{EntityFits, EntitiesFit, kindOfEntity}
 use Rattle.wellformed.specs.Kinds.{allowed, futureBy}
 use Rattle.actor.specs.Series.{EachFrom}
-use Rattle.actor.specs.Queues.{kindNumber, Sorted, Opens, WaitsThere}
+use Rattle.actor.specs.Queues.{Sorted, Opens, WaitsThere}
 use Rattle.actor.specs.Messages.{Ordered}
 
 module _ (K : List ℕ) (a W : ℕ) (w : List ℕ) (l : a < 128) where
@@ -27,7 +27,7 @@ module _ (K : List ℕ) (a W : ℕ) (w : List ℕ) (l : a < 128) where
 
   -- the slots of h, the first of number n, say their kinds
   abbrev pub Kinds : ℕ → List Entity → Type 0
-  Kinds n h = (i : ℕ) (o : Entity) → getElem? h i ≡ some o → getD w (720 + 8 * (n + i)) 0 % 8 ≡ kindNumber o
+  Kinds n h = (i : ℕ) (o : Entity) → getElem? h i ≡ some o → getD w (720 + 8 * (n + i)) 0 % 8 ≡ kindOfEntity o
 
   -- ---- from the words to a heap
   pub ordered-sorted : (M lo : ℕ) (q : List Message) → Ordered K a W w l M lo q → Sorted lo q
@@ -45,7 +45,7 @@ module _ (K : List ℕ) (a W : ℕ) (w : List ℕ) (l : a < 128) where
   ordered-opens h lo [] k o = tt
   ordered-opens h lo (message v m vs ∷ q) k o = (here, ordered-opens h (aimOf v) q k (o .1))
     where
-      here : (i : ℕ) → aimOf v ≡ 0 + i → (u : Entity) × (getElem? h i ≡ some u) × (kindNumber u ≡ 3)
+      here : (i : ℕ) → aimOf v ≡ 0 + i → (u : Entity) × (getElem? h i ≡ some u) × (kindOfEntity u ≡ 3)
       here i e =
           let z : aimOf v ≡ i = omega arith in
           let b = o .0 .2 in
@@ -66,12 +66,12 @@ module _ (K : List ℕ) (a W : ℕ) (w : List ℕ) (l : a < 128) where
       )
 
   pub queues-ordered : (h : List Entity) (n lo M : ℕ) → EntitiesFit n h → EachFrom (IsEntity W P (futureBy K) a) n h → Kinds n h → n + length h ≤ M → lo ≤ n → Ordered K a W w l M lo (queues h)
-  unfolding queues queue kindNumber
+  unfolding queues queue kindOfEntity
   queues-ordered [] n lo M f g k i j = tt
   queues-ordered (o ∷ h) n lo M f g k i j = go o (k 0 o refl) (f .0) (g .0)
       (λ b d. queues-ordered h (suc n) b M (f .1) (g .1) (λ x u e. let z : n + suc x ≡ suc n + x = omega arith in rw z at (k (suc x) u e)) (omega arith) d)
     where
-      go : (o : Entity) → getD w (720 + 8 * (n + 0)) 0 % 8 ≡ kindNumber o → EntityFits n o → IsEntity W P (futureBy K) a n o → ((b : ℕ) → b ≤ suc n → Ordered K a W w l M b (queues h)) → Ordered K a W w l M lo (queue o ++ queues h)
+      go : (o : Entity) → getD w (720 + 8 * (n + 0)) 0 % 8 ≡ kindOfEntity o → EntityFits n o → IsEntity W P (futureBy K) a n o → ((b : ℕ) → b ≤ suc n → Ordered K a W w l M b (queues h)) → Ordered K a W w l M lo (queue o ++ queues h)
       go (object t F X) c e d rest = rest lo (omega arith)
       go (future none q) c e d rest = queue-ordered n M lo q (queues h) d j (omega arith) (rw (add-zero n) at c) rest
       go (future (some v) q) c e d rest = rw (e .1) (rest lo (omega arith))

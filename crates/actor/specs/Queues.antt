@@ -10,6 +10,7 @@ use native.Mathlib.Omega.{arith}
 use borrow.Author.Tests.{eqb-true, eqb-false}
 use lib.Dec.{eqb}
 use lib.ListN.{length, drop, getD, getElem?}
+use lib.Seq.{getD-drop}
 use Rattle.atlite.specs.Base.{if_then_else_, sum}
 use Rattle.atlite.specs.Term.{made, Value, ref}
 use Rattle.atlite.specs.State.{Message, O, I, Entity, object, future, resolver}
@@ -20,32 +21,22 @@ use Rattle.layout.specs.PackLaws.{Each, each-map}
 use Rattle.layout.specs.Terms.{encodeMethods}
 use Rattle.layout.specs.Layout.{tagNumber, slot, slots, methodsOf, bodies, queue, queues}
 use Rattle.layout.specs.Decode.{aim, mine, others}
-use Rattle.layout.specs.Slots.{MessageFits, EntityFits, EntitiesFit, slot-length, tag-low, head-kind}
-use Rattle.layout.specs.Spans.{drop-first, drop-past}
+use Rattle.layout.specs.Slots.{MessageFits, EntityFits, EntitiesFit, slot-length, kindOfEntity, slot-kind}
+use Rattle.layout.specs.Spans.{drop-past}
 use Rattle.actor.specs.Series.{EachFrom}
 
 -- ---- the kind in a slot's head
-unfoldable pub kindNumber : Entity → ℕ
-kindNumber (object t F M) = tagNumber t
-kindNumber (future none q) = 3
-kindNumber (future (some v) q) = 4
-kindNumber (resolver k) = 5
-
-slot-kind : (w : List ℕ) (n at : ℕ) (o : Entity) (r : List ℕ) → EntityFits n o → drop at w ≡ slot n o ++ r → getD w at 0 % 8 ≡ kindNumber o
-unfolding slot kindNumber
-slot-kind w n at (object t F M) r f e = ap (λ x. x % 8) (drop-first w at _ _ e) ∙ head-kind (tagNumber t) _ _ n (tag-low t) (omega (arith, f .0 .0)) (omega (arith, f .1))
-slot-kind w n at (future none q) r f e = ap (λ x. x % 8) (drop-first w at _ _ e) ∙ head-kind 3 0 0 n (omega arith) (omega arith) (omega arith)
-slot-kind w n at (future (some v) q) r f e = ap (λ x. x % 8) (drop-first w at _ _ e) ∙ head-kind 4 0 0 n (omega arith) (omega arith) (omega arith)
-slot-kind w n at (resolver k) r f e = ap (λ x. x % 8) (drop-first w at _ _ e) ∙ head-kind 5 0 0 n (omega arith) (omega arith) (omega arith)
+kind-there : (w : List ℕ) (n at : ℕ) (o : Entity) (r : List ℕ) → EntityFits n o → drop at w ≡ slot n o ++ r → getD w at 0 % 8 ≡ kindOfEntity o
+kind-there w n at o r f e = ap (λ i. getD w i 0 % 8) (sym (add-zero at)) ∙ ap (λ x. x % 8) (sym (getD-drop at w 0 0) ∙ ap (λ l. getD l 0 0) e) ∙ slot-kind n o r f
 
 pub slots-kind : (w : List ℕ) (h : List Entity) (n at : ℕ) (r : List ℕ) → EntitiesFit n h → drop at w ≡ slots n h ++ r
-    → (i : ℕ) (o : Entity) → getElem? h i ≡ some o → getD w (at + 8 * i) 0 % 8 ≡ kindNumber o
+    → (i : ℕ) (o : Entity) → getElem? h i ≡ some o → getD w (at + 8 * i) 0 % 8 ≡ kindOfEntity o
 unfolding slots
 slots-kind w [] n at r f e i o g = absurd (none-some g)
 slots-kind w (u ∷ h) n at r f e zero o g =
     let q : u ≡ o = cc in
     let z : at + 8 * 0 ≡ at = omega arith in
-    rw (z, ← q) (slot-kind w n at u (slots (suc n) h ++ r) (f .0) (e ∙ append-assoc (slot n u) (slots (suc n) h) r))
+    rw (z, ← q) (kind-there w n at u (slots (suc n) h ++ r) (f .0) (e ∙ append-assoc (slot n u) (slots (suc n) h) r))
 slots-kind w (u ∷ h) n at r f e (suc i) o g =
     let c : drop at w ≡ slot n u ++ (slots (suc n) h ++ r) = e ∙ append-assoc (slot n u) (slots (suc n) h) r in
     let d : drop (at + 8) w ≡ slots (suc n) h ++ r = rw (slot-length n u (f .0)) at (drop-past w at (slot n u) (slots (suc n) h ++ r) c) in
@@ -163,10 +154,10 @@ others-sorted n (m ∷ q) h = go (eqb (aim m) n) refl (λ s. others-sorted n q s
 
 -- aimed at an open future among h, the first of which has the number n
 abbrev pub Opens : ℕ → List Entity → Message → Type 0
-Opens n h m = (i : ℕ) → aim m ≡ n + i → (o : Entity) × (getElem? h i ≡ some o) × (kindNumber o ≡ 3)
+Opens n h m = (i : ℕ) → aim m ≡ n + i → (o : Entity) × (getElem? h i ≡ some o) × (kindOfEntity o ≡ 3)
 
 -- an entity that is no open future has none
-mine-none : (n : ℕ) (o : Entity) (h : List Entity) (q : List Message) → (kindNumber o ≡ 3 → ⊥) → Each (Opens n (o ∷ h)) q → mine n q ≡ []
+mine-none : (n : ℕ) (o : Entity) (h : List Entity) (q : List Message) → (kindOfEntity o ≡ 3 → ⊥) → Each (Opens n (o ∷ h)) q → mine n q ≡ []
 unfolding mine if_then_else_
 mine-none n o h [] f k = refl
 mine-none n o h (m ∷ q) f k = go (eqb (aim m) n) refl
@@ -175,11 +166,11 @@ mine-none n o h (m ∷ q) f k = go (eqb (aim m) n) refl
     go true e =
         let z = k .0 0 (eqb-true (aim m) n e ∙ sym (add-zero n)) in
         let d : z .0 ≡ o = cc in
-        absurd (f (ap kindNumber (sym d) ∙ z .2))
+        absurd (f (ap kindOfEntity (sym d) ∙ z .2))
     go false e = refl
 
 queue-given : (n : ℕ) (o : Entity) (h : List Entity) (q : List Message) → EntityFits n o → Each (Opens n (o ∷ h)) q → queue (withQueue o (mine n q)) ≡ mine n q
-unfolding withQueue queue kindNumber tagNumber
+unfolding withQueue queue kindOfEntity tagNumber
 queue-given n (object O F M) h q f k = sym (mine-none n (object O F M) h q (λ e. omega arith) k)
 queue-given n (object I F M) h q f k = sym (mine-none n (object I F M) h q (λ e. omega arith) k)
 queue-given n (future none r) h q f k = refl

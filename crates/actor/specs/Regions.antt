@@ -1,22 +1,14 @@
 -- Regions of a part: words in front and zeros behind; and what stands in a part of the words stands in the words. Assumes nothing.
-use Prim.Native.Nat.{ℕ, suc, _+_, _-_, _≤_}
+use Prim.Native.Nat.{ℕ, _+_, _-_, _≤_}
 use mathlib.Core.Path.{_≡_, refl, sym, ap, ap₂, _∙_}
 use mathlib.Core.Bool.{true}
 use mathlib.Core.List.{List, [], _∷_, _++_, append-assoc, append-nil}
 use native.Mathlib.Omega.{arith}
 use lib.ListN.{length, take, drop, getD, take-append-drop, length-drop, drop-of-length-le}
 use lib.Seq.{slice, take-append-add, drop-append-le, length-take-le, drop-drop, take-at}
-use Rattle.atlite.specs.Base.{sum}
-use Rattle.atlite.specs.State.{Entity}
-use Rattle.atlite.specs.Limits.{bodyNodes}
-use Rattle.atlite.specs.State.{object, future, resolver}
 use Rattle.layout.specs.Pack.{zeros, pad}
 use Rattle.layout.specs.PackLaws.{pad-front}
-use Rattle.layout.specs.Terms.{encodeMethods}
-use Rattle.layout.specs.Layout.{methodsOf, bodies}
-use Rattle.layout.specs.Slots.{EntityFits, EntitiesFit}
 use Rattle.layout.specs.Writes.{zeros-split}
-use Rattle.layout.specs.Arity.{nodesIn, nodes-append, methods-trees}
 use Rattle.layout.specs.Parse.{zerosAt}
 use Rattle.layout.specs.ParseMessages.{zeros-at, zeros-read}
 use Rattle.layout.specs.Spans.{Spans, drop-past, span-of, span-end, span-join}
@@ -92,15 +84,3 @@ tail-zeros xs l =
     let n = 1536 - length xs in
     let z : 2096 - length xs ≡ n + 560 = omega arith in
     ap (λ i. xs ++ zeros i) z ∙ ap (λ y. xs ++ y) (zeros-split n 560) ∙ sym (append-assoc xs (zeros n) (zeros 560))
-
--- ---- nodes
-body-nodes : (n : ℕ) (o : Entity) → EntityFits n o → nodesIn (encodeMethods (methodsOf o)) ≡ bodyNodes o
-unfolding methodsOf bodyNodes encodeMethods nodesIn
-body-nodes n (object t F M) h = methods-trees M (h .2) .count
-body-nodes n (future v q) h = refl
-body-nodes n (resolver k) h = refl
-
-pub bodies-nodes : (n : ℕ) (h : List Entity) → EntitiesFit n h → nodesIn (bodies h) ≡ sum bodyNodes h
-unfolding bodies sum nodesIn
-bodies-nodes n [] f = refl
-bodies-nodes n (o ∷ h) f = nodes-append (encodeMethods (methodsOf o)) (bodies h) ∙ ap₂ _+_ (body-nodes n o (f .0)) (bodies-nodes (suc n) h (f .1))

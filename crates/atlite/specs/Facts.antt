@@ -3,7 +3,7 @@ use mathlib.Core.Path.{_≡_, refl, sym, ap, ap₂, _∙_, subst as transp}
 use mathlib.Core.Bool.{Bool, true, false, false≢true, _&&_, _||_}
 use mathlib.Core.Option.{Option, none, some}
 use mathlib.Core.List.{List, [], _∷_, _++_}
-use Prim.Native.Nat.{ℕ, zero, suc, _<_}
+use Prim.Native.Nat.{ℕ, zero, suc, _≤_, _<_}
 use native.Mathlib.Omega.{arith}
 use borrow.Author.Tests.{eqb-true, eq-eqb}
 use lib.ListN.{length, getElem?, getD}
@@ -89,6 +89,16 @@ pub get-none : {X : Type 0} (l : List X) (n : ℕ) (d : X) → getElem? l n ≡ 
 get-none [] n d h = refl
 get-none (x ∷ l) zero d h = absurd (none-some (sym h))
 get-none (x ∷ l) (suc n) d h = get-none l n d h
+
+pub get-past : {X : Type 0} (l : List X) (n : ℕ) → length l ≤ n → getElem? l n ≡ none
+get-past [] n h = refl
+get-past (x ∷ l) zero h = absurd (omega arith)
+get-past (x ∷ l) (suc n) h = get-past l n (omega arith)
+
+pub get-some : {X : Type 0} (l : List X) (n : ℕ) → n < length l → (x : X) × (getElem? l n ≡ some x)
+get-some [] n h = absurd (omega arith)
+get-some (x ∷ l) zero h = (x, refl)
+get-some (x ∷ l) (suc n) h = get-some l n (omega arith)
 
 -- ---- results
 pub refused-done : {X : Type 0} {n : ℕ} {x : X} → _≡_ {A = Result X} (refused n) (done x) → ⊥

@@ -120,7 +120,7 @@ all-bound L n v M N O x y z p q r =
 pub all-unbound : (L : List ℕ) (n : ℕ) (M N O : List ℕ) (x y z a b c : ℕ) → Swapped L (n % 4096) x M a → Swapped M (n / 4096 % 4096) y N b → Swapped N (n / 16777216 % 4096) z O c → Unbound L n O x y z
 all-unbound L n M N O x y z a b c p q r = record { new = r .new ∙ rw (q .new, p .new) }
 
-put-back : (L : List ℕ) (i v : ℕ) → set (set L i v) i (getD L i 0) ≡ L
+pub put-back : (L : List ℕ) (i v : ℕ) → set (set L i v) i (getD L i 0) ≡ L
 put-back L i v = set-set L i v (getD L i 0) ∙ set-getD L i 0
 
 back : (L : List ℕ) (n v : ℕ) (M N : List ℕ) (x y z : ℕ) → Bound L n v M x y z → Unbound M n N x y z → N ≡ L

@@ -12,7 +12,6 @@ use Rattle.atlite.specs.declared.Moved.{Moved}
 use Rattle.atlite.specs.declared.Ran.{Ran}
 use Rattle.atlite.specs.declared.Listed.{Listed}
 use Rattle.layout.specs.Layout.{stateWords}
-use Rattle.layout.specs.Meaning.{listCall}
 use Rattle.state.specs.Calls.{ListsCall}
 use Rattle.schedule.specs.Claim.{Call, move, run, leaves, leftBy, movedBy, Agree, written, SameEnd}
 use Rattle.schedule.specs.TwoLists.{two-lists}

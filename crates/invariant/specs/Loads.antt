@@ -4,7 +4,7 @@
 use mathlib.Core.Path.{_≡_, refl, subst as transp}
 use mathlib.Core.Bool.{Bool, true, false, false≢true}
 use mathlib.Core.List.{List, [], _∷_}
-use Prim.Native.Nat.{ℕ, _≤_, suc, zero}
+use Prim.Native.Nat.{ℕ, _≤_}
 use native.Mathlib.Omega.{arith}
 use lib.ListN.{length}
 use Rattle.atlite.specs.Base.{Result, done, refused, _>>=_, _>>_, require}
@@ -13,7 +13,7 @@ use Rattle.atlite.specs.Subst.{subst}
 use Rattle.atlite.specs.State.{State, isFuture}
 use Rattle.atlite.specs.Expansion.{expand}
 use Rattle.atlite.specs.Limits.{full, withinLimits}
-use Rattle.atlite.specs.Valid.{unreferring, wordsHold, WellFormed, MayHold, IsState, IsActor, Each}
+use Rattle.atlite.specs.Valid.{unreferring, wordsHold, WellFormed, MayHold, IsState, IsActor}
 use Rattle.atlite.specs.Table.{Grammatical, GrammaticalLines, IsTable, Table}
 use Rattle.atlite.specs.Script.{Src, Line, expression, define, join}
 use Rattle.atlite.specs.Scope.{bound, single}
@@ -22,6 +22,7 @@ use Rattle.atlite.specs.Load.{start, load}
 use Rattle.atlite.specs.Facts.{refused-done, none-some}
 use Rattle.reading.specs.Exact.{table-count, table-words}
 use Rattle.invariant.specs.Terms.{put-first}
+use Rattle.invariant.specs.Entries.{each-one}
 use Rattle.invariant.specs.Expanded.{Plain, expanded}
 
 -- lines of the grammar are joined to a script of the grammar
@@ -53,11 +54,6 @@ pub script-closed : (w : ℕ) (P : Value → Type 0) (e : Src) → Plain P → G
 unfolding unreferring
 script-closed w P e p g b s = put-first (expand e) w P this (val null) [] (p null refl) (expanded e w P [] (this ∷ []) p (λ z h. h) g b s)
 
--- the only element of a list
-alone : {X : Type 0} (Q : ℕ → X → Type 0) (x : X) → Q 0 x → Each Q (x ∷ [])
-alone Q x h zero y e = let z : x ≡ y = cc in transp (Q 0) z h
-alone Q x h (suc n) y e = absurd (none-some e)
-
 -- an actor with nothing but an expression
 fresh : {w : ℕ} {P : Value → Type 0} {φ : Value → Bool} {a : ℕ} {e : Term} → WellFormed e w P []
     → IsActor w P φ a (record { moves = 0; made = []; copied = []; inbox = []; expr = e })
@@ -69,7 +65,7 @@ unfolding start
 start-keeps ws e l h g b s m =
     let σ = start ws (expand e) in
     let k = script-closed (length ws) (MayHold σ 0) e (plain-held σ 0) g b s in
-    record { few = l; words = h; started = omega arith; limits = m; actors = alone (λ a. IsActor (length ws) (MayHold σ a) (isFuture σ) a) _ (fresh k) }
+    record { few = l; words = h; started = omega arith; limits = m; actors = each-one (λ a. IsActor (length ws) (MayHold σ a) (isFuture σ) a) _ (fresh k) }
 
 -- what load gives is the start of the joined lines, within the limits
 load-start : (T : Table) (σ : State) (e : Src) → join (T .lines) ≡ done e → load T ≡ done σ

@@ -2,8 +2,7 @@
 use Prim.Native.Nat.{ℕ}
 use mathlib.Core.Path.{_≡_, refl}
 use mathlib.Core.Bool.{Bool, true, false}
-use mathlib.Core.Option.{Option, none, some}
-use Rattle.atlite.specs.Base.{Result, done, refused, _>>=_, _>>_, require, orRefuse}
+use Rattle.atlite.specs.Base.{Result, done, refused, _>>=_, _>>_, require}
 use Rattle.atlite.specs.Facts.{refused-done}
 
 pub done-same : {A : Type 0} (a b : A) → done a ≡ done b → a ≡ b

@@ -44,7 +44,7 @@ word-bound t x =
     let a = lettersIn (getD t (3 * x - 22) 0) in
     let b = lettersIn (getD t (3 * x - 21) 0) in
     let c = lettersIn (getD t (3 * x - 20) 0) in
-    either 12 (ltb x 8) _ _ (known-bound x) (either 12 (ltb (x - 8) (getD t 1 0)) _ _
+    either 12 (ltb x 8) _ _ (known-bound x) (either 12 (ltb x 72) _ _
     (omega (arith, length-append a (b ++ c), length-append b c, letters-bound (getD t (3 * x - 22) 0), letters-bound (getD t (3 * x - 21) 0), letters-bound (getD t (3 * x - 20) 0)))
     (omega arith))
 
@@ -64,7 +64,8 @@ keyword-bound k =
     either 7 (eqb k 7) _ _ (omega arith) (either 7 (eqb k 8) _ _ (omega arith) (either 7 (eqb k 9) _ _ (omega arith) (either 7 (eqb k 10) _ _ (omega arith)
     (either 7 (eqb k 11) _ _ (omega arith) (either 7 (eqb k 12) _ _ (omega arith) (either 7 (eqb k 13) _ _ (omega arith) (either 7 (eqb k 14) _ _ (omega arith)
     (either 7 (eqb k 15) _ _ (omega arith) (either 7 (eqb k 16) _ _ (omega arith) (either 7 (eqb k 17) _ _ (omega arith) (either 7 (eqb k 18) _ _ (omega arith)
-    (either 7 (eqb k 128) _ _ (omega arith) (omega arith)))))))))))))
+    (either 7 (eqb k 64) _ _ (omega arith) (either 7 (eqb k 65) _ _ (omega arith) (either 7 (eqb k 66) _ _ (omega arith) (either 7 (eqb k 67) _ _ (omega arith)
+    (either 7 (eqb k 68) _ _ (omega arith) (either 7 (eqb k 128) _ _ (omega arith) (either 7 (eqb k 130) _ _ (omega arith) (omega arith)))))))))))))))))))
 
 places-bound : (t : List ℕ) (x y z : ℕ) → length (placesIn t x y z) ≤ 45
 unfolding placesIn openIn
@@ -123,7 +124,8 @@ unfolding arity
 arity-bound h =
     choose 14 (ltb (h / payload) 9) _ _ (omega arith) (choose 14 (eqb (h / payload) 9) _ _ (omega arith) (choose 14 (ltb (h / payload) 12) _ _ (omega arith)
     (choose 14 (eqb (h / payload) 12) _ _ (omega arith) (choose 14 (ltb (h / payload) 15) _ _ (omega arith) (choose 14 (ltb (h / payload) 18) _ _ (omega arith)
-    (choose 14 (eqb (h / payload) 18) _ _ (omega arith) (omega arith)))))))
+    (choose 14 (eqb (h / payload) 18) _ _ (omega arith) (choose 14 (eqb (h / payload) 64) _ _ (omega arith) (choose 14 (ltb (h / payload) 66) _ _ (omega arith)
+    (choose 14 (ltb (h / payload) 69) _ _ (omega arith) (omega arith))))))))))
 
 -- ---- terms
 -- a text has at most 128 bytes for each word that it took, and k more

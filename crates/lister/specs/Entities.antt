@@ -24,9 +24,9 @@ use Rattle.layout.specs.Slots.{MessageFits, EntityFits, EntitiesFit, At, queue-
 use Rattle.layout.specs.Places.{flat-append}
 use Rattle.showing.specs.Shown.{payload, noName, seriesIn, operandsIn, shown}
 use Rattle.lister.specs.Listed.{deep, waits, waitingIn, fieldsIn, kindIn, stateIn, entryIn, openingIn, Entry, partsIn, slotIn, slotsIn}
-use Rattle.lister.specs.Spelling.{Spells}
-use Rattle.lister.specs.Says.{behind-text, showing}
-use Rattle.lister.specs.Words.{leaf-shown}
+use Rattle.showing.specs.Spelling.{Spells}
+use Rattle.showing.specs.Says.{behind-text, showing}
+use Rattle.showing.specs.Words.{leaf-shown}
 use Rattle.lister.specs.Shows.{show-methods}
 use Rattle.lister.specs.Messages.{Quiet, later-waits, waiting-shown, fields-shown}
 

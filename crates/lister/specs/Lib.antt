@@ -5,9 +5,6 @@ pub mod Codes
 pub mod SlotLaws
 pub mod ActorLaws
 -- the words of a state show its listing
-pub mod Spelling
-pub mod Says
-pub mod Words
 pub mod Shows
 pub mod Messages
 pub mod Entities

@@ -25,9 +25,9 @@ use Rattle.layout.specs.Decode.{aimOf, aim}
 use Rattle.layout.specs.Slots.{MessageFits, message-length, From, At}
 use Rattle.showing.specs.Shown.{payload, noName, Text, operandsIn, formIn, shown}
 use Rattle.lister.specs.Listed.{messageIn, aimIn, waits, waitingIn, inboxIn, fieldsIn}
-use Rattle.lister.specs.Spelling.{Spells}
-use Rattle.lister.specs.Says.{showing, form-shown, operand, named-operand, says-message, says-field}
-use Rattle.lister.specs.Words.{name-shown, tag-shown, asked-kind, asked-tag, asked-number, value-shown}
+use Rattle.showing.specs.Spelling.{Spells}
+use Rattle.showing.specs.Says.{showing, form-shown, operand, named-operand, says-message, says-field}
+use Rattle.showing.specs.Words.{name-shown, tag-shown, asked-kind, asked-tag, asked-number, value-shown}
 
 -- ---- aims
 pub aim-value : (v : Value) → ValueFits v → aimIn (encodeValue v) ≡ aimOf v

@@ -10,51 +10,18 @@ use Rattle.atlite.specs.Base.{bytes}
 use Rattle.atlite.specs.Lexicon.{Bytes}
 use Rattle.atlite.specs.Printer.{form, printWord, printKind}
 use Rattle.atlite.specs.Listing.{printName, printTerm, printTerms, printInits, printMethods}
-use Rattle.atlite.specs.Term.{Name, Term, val, var, plus, percent, get, set, call, send, letIn, future, literal, Terms, nil, cons, Inits, noField, Methods, noMethod, method, countTerms}
+use Rattle.atlite.specs.Term.{Term, val, var, plus, percent, get, set, call, send, letIn, future, literal, Terms, nil, cons, Inits, noField, Methods, noMethod, method, countTerms}
 use Rattle.reading.specs.Items.{behind}
 use Rattle.layout.specs.Pack.{node}
-use Rattle.layout.specs.PackLaws.{NameFits}
 use Rattle.layout.specs.Terms.{countInits, countMethods, tagged, asked, kindNumber, fieldHeader, methodHeader, encodeTerm, encodeTerms, encodeInits, encodeMethods}
-use Rattle.layout.specs.TermLaws.{Fits, FitsAll, FitsInits, FitsMethods, NameOk}
-use Rattle.showing.specs.Shown.{payload, noName, leafIn, Text, operandsIn, shown}
-use Rattle.lister.specs.Spelling.{Spells, spelt}
-use Rattle.lister.specs.Says.{Says, showing, show-form, operand, named-operand, says-plus, says-percent, says-get, says-set, says-call, says-send, says-let, says-field, says-future}
-use Rattle.lister.specs.Words.{name-shown, tag-shown, asked-kind, asked-tag, asked-number, leaf, value-shown, literal-says, header-says}
+use Rattle.layout.specs.TermLaws.{Fits, FitsAll, FitsInits, FitsMethods}
+use Rattle.showing.specs.Shown.{payload, noName, leafIn, operandsIn, shown}
+use Rattle.showing.specs.Spelling.{Spells, spelt}
+use Rattle.showing.specs.Says.{showing, show-form, operand, says-plus, says-percent, says-get, says-set, says-call, says-send, says-let, says-field, says-future}
+use Rattle.showing.specs.Forms.{joined, two, between, one, last, asks}
+use Rattle.showing.specs.Words.{name-shown, tag-shown, asked-kind, asked-tag, asked-number, leaf, value-shown, literal-says, header-says}
 
 module _ (t : List ℕ) (ws : List Bytes) (sp : Spells t ws) where
-  -- two lists of words behind a head
-  joined : (n h : ℕ) (a b r : List ℕ) (s : Text) → shown t n (h ∷ (a ++ (b ++ r))) ≡ s → shown t n (h ∷ ((a ++ b) ++ r)) ≡ s
-  joined n h a b r s e = ap (λ w. shown t n (h ∷ w)) (append-assoc a b r) ∙ e
-
-  module _ (n h : ℕ) (key : Bytes) (a b r : List ℕ) (s u : Bytes) (p : shown t n (a ++ (b ++ r)) ≡ showing s (b ++ r)) (q : shown t n (b ++ r) ≡ showing u r) where
-    -- two operands, behind names or with a name between them
-    two : (before : List Bytes) → Says t h key before noName 2 → shown t (suc n) (h ∷ ((a ++ b) ++ r)) ≡ showing (form (key ∷ (before ++ (s ∷ u ∷ [])))) r
-    unfolding operandsIn
-    two before i = joined (suc n) h a b r _ (show-form t h key _ r (s ∷ u ∷ []) before noName 2 i n
-        (operand t (shown t n) _ _ r s (u ∷ []) 1 p (operand t (shown t n) _ _ r u [] 0 q refl)))
-
-    between : (x : ℕ) → NameFits x → Says t h key [] x 2 → shown t (suc n) (h ∷ ((a ++ b) ++ r)) ≡ showing (form (key ∷ s ∷ printWord ws x ∷ u ∷ [])) r
-    unfolding operandsIn
-    between x g i = joined (suc n) h a b r _ (show-form t h key _ r (s ∷ printWord ws x ∷ u ∷ []) [] x 2 i n
-        (named-operand t (shown t n) _ _ r s (u ∷ []) 1 x (printWord ws x) (name-shown t ws sp x g) p (operand t (shown t n) _ _ r u [] 0 q refl)))
-
-  module _ (n h : ℕ) (key : Bytes) (a r : List ℕ) (s : Bytes) (p : shown t n (a ++ r) ≡ showing s r) where
-    one : (before : List Bytes) → Says t h key before noName 1 → shown t (suc n) (h ∷ (a ++ r)) ≡ showing (form (key ∷ (before ++ (s ∷ [])))) r
-    unfolding operandsIn
-    one before i = show-form t h key _ r (s ∷ []) before noName 1 i n (operand t (shown t n) _ _ r s [] 0 p refl)
-
-    last : (x : ℕ) → NameFits x → Says t h key [] x 1 → shown t (suc n) (h ∷ (a ++ r)) ≡ showing (form (key ∷ s ∷ printWord ws x ∷ [])) r
-    unfolding operandsIn
-    last x g i = show-form t h key _ r (s ∷ printWord ws x ∷ []) [] x 1 i n
-        (named-operand t (shown t n) _ _ r s [] 0 x (printWord ws x) (name-shown t ws sp x g) p refl)
-
-  -- an operand, a name with its tag and more operands
-  asks : (n h : ℕ) (key : Bytes) (a b r : List ℕ) (s : Bytes) (items : List Bytes) (m : Name) (k : ℕ) → NameOk m → Says t h key [] (tagged m) (suc k)
-      → shown t n (a ++ (b ++ r)) ≡ showing s (b ++ r) → operandsIn t (shown t n) noName k (b ++ r) ≡ showing (behind items []) r
-      → shown t (suc n) (h ∷ ((a ++ b) ++ r)) ≡ showing (form (key ∷ s ∷ printName ws m ∷ items)) r
-  asks n h key a b r s items m k g i p q = joined (suc n) h a b r _ (show-form t h key _ r (s ∷ printName ws m ∷ items) [] (tagged m) (suc k) i n
-      (named-operand t (shown t n) _ _ r s items k (tagged m) (printName ws m) (tag-shown t ws sp m g) p q))
-
   mutual
     unfolding encodeTerm printTerm Fits countTerms countInits countMethods operandsIn leafIn
 
@@ -65,49 +32,49 @@ module _ (t : List ℕ) (ws : List Bytes) (sp : Spells t ws) where
     show-term (var x) (suc n) r g d =
         let y : (x + 16777216 * 6) / payload ≡ 6 = omega (arith, g) in
         let z : (x + 16777216 * 6) % 128 ≡ x = omega (arith, g) in
-        leaf t ws sp n (node 6 x) r (printWord ws x) (omega arith) (rw (y, z) (spelt t ws sp x))
+        leaf t ws sp (suc n) (node 6 x) r (printWord ws x) (omega arith) (omega arith) (rw (y, z) (spelt t ws sp x))
     show-term (plus a b) zero r g d = absurd (omega arith)
     show-term (plus a b) (suc n) r g d =
         let l = length-append (encodeTerm a) (encodeTerm b) in
-        two n (node 7 0) (bytes "plus") (encodeTerm a) (encodeTerm b) r (printTerm ws a) (printTerm ws b) (show-term a n (encodeTerm b ++ r) (g .0) (omega arith)) (show-term b n r (g .1) (omega arith)) [] (says-plus t)
+        two t n (suc n) refl (node 7 0) (bytes "plus") (encodeTerm a) (encodeTerm b) r (printTerm ws a) (printTerm ws b) (show-term a n (encodeTerm b ++ r) (g .0) (omega arith)) (show-term b n r (g .1) (omega arith)) [] (says-plus t)
     show-term (percent a b) zero r g d = absurd (omega arith)
     show-term (percent a b) (suc n) r g d =
         let l = length-append (encodeTerm a) (encodeTerm b) in
-        two n (node 8 0) (bytes "percent") (encodeTerm a) (encodeTerm b) r (printTerm ws a) (printTerm ws b) (show-term a n (encodeTerm b ++ r) (g .0) (omega arith)) (show-term b n r (g .1) (omega arith)) [] (says-percent t)
+        two t n (suc n) refl (node 8 0) (bytes "percent") (encodeTerm a) (encodeTerm b) r (printTerm ws a) (printTerm ws b) (show-term a n (encodeTerm b ++ r) (g .0) (omega arith)) (show-term b n r (g .1) (omega arith)) [] (says-percent t)
     show-term (get e x) zero r g d = absurd (omega arith)
     show-term (get e x) (suc n) r g d =
         let f = g .0 in
-        last n (node 9 x) (bytes "get") (encodeTerm e) r (printTerm ws e) (show-term e n r (g .1) (omega arith)) x f (says-get t _ x (omega arith) (omega arith))
+        last t n (suc n) refl (node 9 x) (bytes "get") (encodeTerm e) r (printTerm ws e) (show-term e n r (g .1) (omega arith)) x (printWord ws x) (name-shown t ws sp x f) (says-get t _ x (omega arith) (omega arith))
     show-term (set a x b) zero r g d = absurd (omega arith)
     show-term (set a x b) (suc n) r g d =
         let l = length-append (encodeTerm a) (encodeTerm b) in
         let f = g .0 in
-        between n (node 10 x) (bytes "set") (encodeTerm a) (encodeTerm b) r (printTerm ws a) (printTerm ws b) (show-term a n (encodeTerm b ++ r) (g .1) (omega arith)) (show-term b n r (g .2) (omega arith)) x f (says-set t _ x (omega arith) (omega arith))
+        between t n (suc n) refl (node 10 x) (bytes "set") (encodeTerm a) (encodeTerm b) r (printTerm ws a) (printTerm ws b) (show-term a n (encodeTerm b ++ r) (g .1) (omega arith)) (show-term b n r (g .2) (omega arith)) x (printWord ws x) (name-shown t ws sp x f) (says-set t _ x (omega arith) (omega arith))
     show-term (letIn x a b) zero r g d = absurd (omega arith)
     show-term (letIn x a b) (suc n) r g d =
         let l = length-append (encodeTerm a) (encodeTerm b) in
         let f = g .0 in
-        two n (node 11 x) (bytes "let") (encodeTerm a) (encodeTerm b) r (printTerm ws a) (printTerm ws b) (show-term a n (encodeTerm b ++ r) (g .1) (omega arith)) (show-term b n r (g .2) (omega arith)) (printWord ws x ∷ []) (says-let t _ x (printWord ws x) (name-shown t ws sp x f) (omega arith) (omega arith))
+        two t n (suc n) refl (node 11 x) (bytes "let") (encodeTerm a) (encodeTerm b) r (printTerm ws a) (printTerm ws b) (show-term a n (encodeTerm b ++ r) (g .1) (omega arith)) (show-term b n r (g .2) (omega arith)) (printWord ws x ∷ []) (says-let t _ x (printWord ws x) (name-shown t ws sp x f) (omega arith) (omega arith))
     show-term (future x y e) zero r g d = absurd (omega arith)
     show-term (future x y e) (suc n) r g d =
         let f = g .0 in
         let i = g .1 in
-        one n (node 12 (x + 128 * y)) (bytes "future") (encodeTerm e) r (printTerm ws e) (show-term e n r (g .2) (omega arith)) (printWord ws x ∷ printWord ws y ∷ []) (says-future t _ x (printWord ws x) (name-shown t ws sp x f) y (printWord ws y) (name-shown t ws sp y i) (omega arith) (omega arith) (omega arith))
+        one t n (suc n) refl (node 12 (x + 128 * y)) (bytes "future") (encodeTerm e) r (printTerm ws e) (show-term e n r (g .2) (omega arith)) (printWord ws x ∷ printWord ws y ∷ []) (says-future t _ x (printWord ws x) (name-shown t ws sp x f) y (printWord ws y) (name-shown t ws sp y i) (omega arith) (omega arith) (omega arith))
     show-term (call e m es) zero r g d = absurd (omega arith)
     show-term (call e m es) (suc n) r g d =
         let l = length-append (encodeTerm e) (encodeTerms es) in
         let c = countTerms es in
-        asks n (node 13 (asked m c)) (bytes "call") (encodeTerm e) (encodeTerms es) r (printTerm ws e) (printTerms ws es) m c (g .0) (says-call t _ (tagged m) c (asked-tag 13 m c (g .0) (g .1)) (asked-number 13 m c (g .0) (g .1)) (asked-kind 13 m c (g .0) (g .1))) (show-term e n (encodeTerms es ++ r) (g .2) (omega arith)) (show-terms es n r (g .3) (omega arith))
+        asks t n (suc n) refl (node 13 (asked m c)) (bytes "call") (encodeTerm e) (encodeTerms es) r (printTerm ws e) (printTerms ws es) (tagged m) (printName ws m) c (tag-shown t ws sp m (g .0)) (says-call t _ (tagged m) c (asked-tag 13 m c (g .0) (g .1)) (asked-number 13 m c (g .0) (g .1)) (asked-kind 13 m c (g .0) (g .1))) (show-term e n (encodeTerms es ++ r) (g .2) (omega arith)) (show-terms es n r (g .3) (omega arith))
     show-term (send e m es) zero r g d = absurd (omega arith)
     show-term (send e m es) (suc n) r g d =
         let l = length-append (encodeTerm e) (encodeTerms es) in
         let c = countTerms es in
-        asks n (node 14 (asked m c)) (bytes "send") (encodeTerm e) (encodeTerms es) r (printTerm ws e) (printTerms ws es) m c (g .0) (says-send t _ (tagged m) c (asked-tag 14 m c (g .0) (g .1)) (asked-number 14 m c (g .0) (g .1)) (asked-kind 14 m c (g .0) (g .1))) (show-term e n (encodeTerms es ++ r) (g .2) (omega arith)) (show-terms es n r (g .3) (omega arith))
+        asks t n (suc n) refl (node 14 (asked m c)) (bytes "send") (encodeTerm e) (encodeTerms es) r (printTerm ws e) (printTerms ws es) (tagged m) (printName ws m) c (tag-shown t ws sp m (g .0)) (says-send t _ (tagged m) c (asked-tag 14 m c (g .0) (g .1)) (asked-number 14 m c (g .0) (g .1)) (asked-kind 14 m c (g .0) (g .1))) (show-term e n (encodeTerms es ++ r) (g .2) (omega arith)) (show-terms es n r (g .3) (omega arith))
     show-term (literal k fs ms) zero r g d = absurd (omega arith)
     show-term (literal k fs ms) (suc n) r g d =
         let l = length-append (encodeInits fs) (encodeMethods ms) in
-        joined (suc n) (node (kindNumber k) (countInits fs + 8 * countMethods ms)) (encodeInits fs) (encodeMethods ms) r _
-        (show-form t _ (printKind k) (encodeInits fs ++ (encodeMethods ms ++ r)) r (printInits ws fs ++ printMethods ws ms) [] noName (countInits fs + countMethods ms) (literal-says t ws sp k (countInits fs) (countMethods ms) (g .0) (g .1)) n
+        joined t (suc n) (node (kindNumber k) (countInits fs + 8 * countMethods ms)) (encodeInits fs) (encodeMethods ms) r _
+        (show-form t _ (printKind k) (encodeInits fs ++ (encodeMethods ms ++ r)) r (printInits ws fs ++ printMethods ws ms) [] noName (countInits fs + countMethods ms) (literal-says t ws sp k (countInits fs) (countMethods ms) (g .0) (g .1)) n (suc n) refl
         (show-inits fs n (encodeMethods ms ++ r) r (printMethods ws ms) (countMethods ms) (g .2) (omega arith) (show-methods ms n r (g .3) (omega arith))))
 
     show-terms : (es : Terms) (n : ℕ) (r : List ℕ) → FitsAll es → length (encodeTerms es) ≤ n
@@ -128,7 +95,7 @@ module _ (t : List ℕ) (ws : List Bytes) (sp : Spells t ws) where
         let i = g .0 in
         ap₂ (λ j v. operandsIn t (shown t (suc n)) noName j (fieldHeader f ∷ v)) (suc-add (countInits fs) k) (append-assoc (encodeTerm e) (encodeInits fs) w)
         ∙ operand t (shown t (suc n)) _ _ r _ (printInits ws fs ++ items) (countInits fs + k)
-        (one n (fieldHeader f) (bytes "field") (encodeTerm e) (encodeInits fs ++ w) (printTerm ws e) (show-term e n (encodeInits fs ++ w) (g .1) (omega arith)) (printWord ws f ∷ []) (says-field t _ f (printWord ws f) (name-shown t ws sp f i) (omega arith) (omega arith)))
+        (one t n (suc n) refl (fieldHeader f) (bytes "field") (encodeTerm e) (encodeInits fs ++ w) (printTerm ws e) (show-term e n (encodeInits fs ++ w) (g .1) (omega arith)) (printWord ws f ∷ []) (says-field t _ f (printWord ws f) (name-shown t ws sp f i) (omega arith) (omega arith)))
         (show-inits fs (suc n) w r items k (g .2) (omega arith) o)
 
     pub show-methods : (ms : Methods) (n : ℕ) (r : List ℕ) → FitsMethods ms → length (encodeMethods ms) ≤ n
@@ -139,5 +106,5 @@ module _ (t : List ℕ) (ws : List Bytes) (sp : Spells t ws) where
         let l = length-append (encodeTerm e) (encodeMethods ms) in
         ap (λ v. operandsIn t (shown t (suc n)) noName (suc (countMethods ms)) (methodHeader m xs ∷ v)) (append-assoc (encodeTerm e) (encodeMethods ms) r)
         ∙ operand t (shown t (suc n)) _ _ r _ (printMethods ws ms) (countMethods ms)
-        (one n (methodHeader m xs) (bytes "method") (encodeTerm e) (encodeMethods ms ++ r) (printTerm ws e) (show-term e n (encodeMethods ms ++ r) (g .3) (omega arith)) (printWord ws m ∷ form (map (printWord ws) xs) ∷ []) (header-says t ws sp m xs (g .0) (g .1) (g .2)))
+        (one t n (suc n) refl (methodHeader m xs) (bytes "method") (encodeTerm e) (encodeMethods ms ++ r) (printTerm ws e) (show-term e n (encodeMethods ms ++ r) (g .3) (omega arith)) (printWord ws m ∷ form (map (printWord ws) xs) ∷ []) (header-says t ws sp m xs (g .0) (g .1) (g .2)))
         (show-methods ms (suc n) r (g .4) (omega arith))

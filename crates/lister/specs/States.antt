@@ -15,15 +15,15 @@ use Rattle.atlite.specs.Term.{made, copied}
 use Rattle.atlite.specs.State.{Entity, object, future, resolver, Actor, State}
 use Rattle.reading.specs.Items.{form-closing}
 use Rattle.layout.specs.Pack.{zeros, pad, flat}
-use Rattle.layout.specs.PackLaws.{pad-front, drop-pad, Each}
+use Rattle.layout.specs.PackLaws.{pad-front, drop-pad, length-flat, Each}
 use Rattle.layout.specs.Terms.{seriesBit, countMethods, encodeTerm}
-use Rattle.layout.specs.Layout.{encodeMessage, slotHead, slot, slots, bodies, queues, encodeActor, encode}
+use Rattle.layout.specs.Layout.{encodeWord, encodeMessage, slotHead, slot, slots, bodies, queues, encodeActor, encode}
 use Rattle.layout.specs.Slots.{EntitiesFit, tag-low}
 use Rattle.layout.specs.Parts.{ActorFits, r0, r1, r2, r3, r4, r5, r6, counts, regions, actor-length}
-use Rattle.layout.specs.Whole.{StateFits, topWords, head-words}
+use Rattle.layout.specs.Whole.{StateFits, topWords, head-words, words-three}
 use Rattle.showing.specs.Shown.{payload, Text, shown}
 use Rattle.lister.specs.Listed.{deep, Entry, slotsIn, spacedIn, titleIn, countsIn, exprIn, lineIn, entitiesIn, actorIn, actorsIn, listedIn}
-use Rattle.lister.specs.Spelling.{Spells, entry-at}
+use Rattle.showing.specs.Spelling.{Spells, entry-at}
 use Rattle.lister.specs.Shows.{show-term}
 use Rattle.lister.specs.Messages.{Quiet, inbox-shown}
 use Rattle.lister.specs.Entities.{entry, entities-shown}
@@ -194,10 +194,12 @@ module _ (σ : State) (f : StateFits σ) (t : List ℕ) (is : t ≡ encode σ) w
 
   spells : Spells t (σ .words)
   spells = record {
-    count = ap (λ l. getD l 1 0) words-at;
     few = f .wordCount;
     fit = f .wordsFit;
-    entries = λ k i l h. let z : 2 + (3 * k + i) ≡ suc (suc (3 * k + i)) = omega arith in ap₂ (λ w j. getD w j 0) words-at z ∙ entry-at (σ .words) _ k i l h;
+    entries = λ k i l h.
+        let z : 2 + (3 * k + i) ≡ suc (suc (3 * k + i)) = omega arith in
+        let n = length-flat encodeWord 3 (σ .words) (words-three (σ .words)) in
+        ap₂ (λ w j. getD w j 0) words-at z ∙ entry-at (σ .words) (256 - length (topWords σ f)) _ k i (omega (arith, f .wordCount)) h;
   }
 
   actors-at : drop 256 t ≡ flat encodeActor (σ .actors) ++ (zeros (12800 - length (flat encodeActor (σ .actors))) ++ zeros 3328)

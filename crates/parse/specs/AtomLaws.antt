@@ -1,5 +1,5 @@
 -- Atoms: one word each, in its place. Assumes nothing.
-use mathlib.Core.Path.{_≡_, refl, sym, ap, _∙_}
+use mathlib.Core.Path.{_≡_, refl, sym, _∙_}
 use mathlib.Core.Bool.{Bool, true, false, false≢true}
 use mathlib.Core.Option.{Option, none, some}
 use mathlib.Core.List.{List, [], _∷_}
@@ -7,11 +7,11 @@ use Prim.Native.Nat.{ℕ, _+_, _-_, _≤_, _<_}
 use native.Mathlib.Omega.{arith}
 use borrow.Author.Needs.{needs}
 use lib.ListN.{length, drop, set}
-use lib.Seq.{slice, sets, slice-empty, length-slice}
+use lib.Seq.{slice, slice-empty, length-slice}
 use Rattle.atlite.specs.Base.{Base, Result, done, refused, require, orRefuse, _>>=_, _>>_, bytes, sameBytes, all, if_then_else_}
 use Rattle.atlite.specs.Lexicon.{Bytes, isDigit, isWord, letterFirst, isNumber, decimal, numberOf, dictionary}
 use Rattle.atlite.specs.Script.{Src}
-use Rattle.atlite.specs.Reader.{item, eat, atom, readAtom, readWord}
+use Rattle.atlite.specs.Reader.{item, atom, readAtom, readWord}
 use Rattle.atlite.specs.Facts.{same-true, same-false-sym}
 use Rattle.words.specs.Wide.{wide, wideSrc}
 use Rattle.scan.specs.Runs.{Run, Starts}
@@ -21,9 +21,9 @@ use Rattle.parse.specs.declared.Name.{Name}
 use Rattle.parse.specs.declared.Name.the-variants.{Word, NoWord}
 use Rattle.parse.specs.declared.Step.{Step}
 use Rattle.parse.specs.declared.Step.the-variants.{Done, Bad}
-use Rattle.parse.specs.Atoms.{Digits, NumberIs, NameRead, Named, NameOf}
+use Rattle.parse.specs.Atoms.{NumberIs, Named, NameOf}
 use Rattle.parse.specs.NameLaws.{eat-starts, eat-not, starts-room, name-small}
-use Rattle.parse.specs.Steps.{Place, Read, Took, ClosedAt, Closed}
+use Rattle.parse.specs.Steps.{Took, Closed}
 
 -- ---- the closing bracket
 module _ (t : Bytes) (at : ℕ) (old new : List ℕ) (o w p : ℕ) (r : Bool) (s : Starts t at (41 ∷ []) r) where

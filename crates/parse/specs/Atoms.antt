@@ -1,8 +1,8 @@
 -- What the functions over words and numbers of a text answer. Assumes nothing.
 use mathlib.Core.Path.{_≡_}
-use mathlib.Core.Bool.{Bool, true, false}
+use mathlib.Core.Bool.{true, false}
 use mathlib.Core.List.{List}
-use Prim.Native.Nat.{ℕ, _+_, _-_, _^_, _≤_, _<_}
+use Prim.Native.Nat.{ℕ, _-_, _^_, _≤_, _<_}
 use lib.ListN.{length, drop}
 use lib.Seq.{slice}
 use Rattle.atlite.specs.Base.{Result, done, refused, all}

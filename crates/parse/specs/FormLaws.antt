@@ -3,19 +3,19 @@ use mathlib.Core.Path.{_≡_, refl, sym, ap, _∙_}
 use mathlib.Core.Bool.{Bool, true, false}
 use mathlib.Core.Option.{Option, none, some}
 use mathlib.Core.List.{List, [], _∷_, _++_, map}
-use Prim.Native.Nat.{ℕ, zero, suc, _+_, _-_, _*_, _≤_, _<_}
+use Prim.Native.Nat.{ℕ, suc, _+_, _-_, _≤_, _<_}
 use native.Mathlib.Omega.{arith}
-use borrow.Author.Needs.{needs}
 use borrow.Author.Tests.{eqb-true, eqb-false, ne-eqb}
 use lib.Dec.{eqb}
 use lib.ListN.{length, drop, getElem?}
 use lib.Seq.{slice, sets}
 use Rattle.atlite.specs.Base.{Base, Result, done, refused, orRefuse, _>>=_, bytes, sameBytes, if_then_else_}
+use Rattle.atlite.specs.Facts.{get-past}
 use Rattle.atlite.specs.Term.{Kind, object, isolate, actor}
 use Rattle.atlite.specs.Lexicon.{Bytes, reserved, dictionary, isNumber, isWord, letterFirst}
 use Rattle.atlite.specs.Script.{Src, Srcs, SrcFields, SrcMethods}
 use Rattle.atlite.specs.Printer.{printKind}
-use Rattle.atlite.specs.Reader.{Reading, Operator, spelling, spelled, operators, operator, item, eat, after, atom, readAtom, spaced, spacedWord, readTwo, readBetween, readMessage, readArgs, readFields, readMethods, readForm, readExpr}
+use Rattle.atlite.specs.Reader.{Reading, Operator, spelling, spelled, operators, operator, item, eat, after, atom, readAtom, spaced, spacedWord, readTwo, readBetween, readMessage, readForm, readExpr}
 use Rattle.layout.specs.Terms.{kindNumber}
 use Rattle.atlite.specs.Table.{countSrcs}
 use Rattle.words.specs.Wide.{wide, pair, wideSrc, wideSrcs}
@@ -25,7 +25,7 @@ use Rattle.parse.specs.declared.Name.the-variants.{Word, NoWord}
 use Rattle.parse.specs.declared.Step.{Step}
 use Rattle.parse.specs.declared.Step.the-variants.{Done, Bad}
 use Rattle.parse.specs.Atoms.{NameRead, Named, SpacedName}
-use Rattle.parse.specs.Steps.{Read, Took, Reads, exprs, brackets, formBy, forms, readOne, ones, oneWords, readPair, twos, twoWords, readGet, gets, getWords, readMid, mids, midWords, readSend, sends, sendWords, readLiteral, literals, literalWords}
+use Rattle.parse.specs.Steps.{Took, Reads, exprs, brackets, formBy, forms, readOne, ones, oneWords, readPair, twos, twoWords, readGet, gets, getWords, readMid, mids, midWords, readSend, sends, sendWords, readLiteral, literals, literalWords}
 use Rattle.parse.specs.NameLaws.{starts-room}
 use Rattle.parse.specs.StepLaws.{shift}
 
@@ -251,14 +251,9 @@ module _ (t : Bytes) (at o : ℕ) (old new : List ℕ) (a : Step) where
   pub form-fn : (k : ℕ) → k ≡ 9 → Reads wideSrc (forms 9 t) t at o old new a → Reads wideSrc (forms k t) t at o old new a
   form-fn k e s = same-form k 9 e s
 
-none-at : (os : List Operator) (m : ℕ) → length os ≤ m → getElem? os m ≡ none
-none-at [] m h = refl
-none-at (x ∷ os) zero h = absurd (omega arith)
-none-at (x ∷ os) (suc m) h = none-at os m (omega arith)
-
 no-operator : (k : ℕ) → 15 < k → getElem? operators k ≡ none
 unfolding operators
-no-operator k h = none-at operators k (omega arith)
+no-operator k h = get-past operators k (omega arith)
 
 pub form-none : (t : Bytes) (at o k : ℕ) (old new : List ℕ) → 15 < k → Reads wideSrc (forms k t) t at o old new Bad
 unfolding Reads Took forms formBy

@@ -1,20 +1,17 @@
 -- A method's header: its name and parameters, in one word. Assumes nothing.
-use mathlib.Core.Path.{_≡_, refl, sym, ap, _∙_, subst as transp}
+use mathlib.Core.Path.{_≡_, refl, _∙_, subst as transp}
 use mathlib.Core.Bool.{Bool, true, false}
-use mathlib.Core.Option.{Option, none, some}
 use mathlib.Core.List.{List, [], _∷_}
 use Prim.Native.Nat.{ℕ, zero, suc, _+_, _-_, _*_, _^_, _≤_, _<_}
 use native.Mathlib.Nat.{pow-zero, pow-succ', pow-le-pow-right, lt-of-lt-of-le}
-use native.Mathlib.Numerals.{add-one}
 use native.Mathlib.Omega.{arith}
 use borrow.Author.Needs.{needs}
 use mir.Val.{Fits}
 use mir.Syntax.{w64}
-use lib.Dec.{eqb}
 use lib.ListN.{length, drop}
-use Rattle.atlite.specs.Base.{Base, Result, done, refused, require, orRefuse, _>>=_, _>>_, if_then_else_, bytes}
+use Rattle.atlite.specs.Base.{Result, done, refused, orRefuse, _>>=_, _>>_, if_then_else_, bytes}
 use Rattle.atlite.specs.Lexicon.{Bytes, dictionary}
-use Rattle.atlite.specs.Reader.{Reading, eat, after, spaced, spacedWord, readWord, readItems, readParams, readNames, readHead}
+use Rattle.atlite.specs.Reader.{Reading, spacedWord, readWord, readItems, readParams, readNames, readHead}
 use Rattle.words.specs.Wide.{wide, pair, wideParams, wideMethod}
 use Rattle.scan.specs.Runs.{Starts}
 use Rattle.parse.specs.declared.Name.{Name}
@@ -24,7 +21,7 @@ use Rattle.parse.specs.declared.Heads.the-variants.{Names, NoNames}
 use Rattle.parse.specs.declared.Header.{Header}
 use Rattle.parse.specs.declared.Header.the-variants.{Head, NoHead}
 use Rattle.parse.specs.Atoms.{NameRead, Named, NameOf, SpacedName}
-use Rattle.parse.specs.NameLaws.{eat-starts, eat-not, starts-room, name-small}
+use Rattle.parse.specs.NameLaws.{eat-starts, eat-not, closes, open-still, starts-room, name-small}
 
 pub record NamesRead (k : ℕ) (R : Result (List ℕ × Bytes)) (t : Bytes) (at i c q : ℕ) : Type 0 where
   pub value : List ℕ
@@ -76,14 +73,6 @@ HeaderOf t at r = TookHead (readHeader (dictionary t) (drop at t)) t at r
 
 -- ---- one more name before others
 module _ (t : Bytes) (at : ℕ) (r : Bool) (s : Starts t at (41 ∷ []) r) where
-  closes : r ≡ true → after (41 ∷ []) (drop at t) ≡ some (drop (at + 1) t)
-  unfolding Starts
-  closes k = rw k at s .0
-
-  open-still : r ≡ false → after (41 ∷ []) (drop at t) ≡ none
-  unfolding Starts
-  open-still k = rw k at s
-
   pub items-close : (k : ℕ) → r ≡ true → ItemsOf k t at (Names (at + 1) 0 0)
   unfolding ItemsOf TookNames readItems wideParams
   items-close zero e = record {
@@ -98,7 +87,7 @@ module _ (t : Bytes) (at : ℕ) (r : Bool) (s : Starts t at (41 ∷ []) r) where
   }
   items-close (suc k) e = record {
     value = [];
-    is = rw (closes e, readItems);
+    is = rw (closes t at r s e, readItems);
     far = omega arith;
     within = starts-room t at 1 (41 ∷ []) r s e refl;
     counted = refl;
@@ -125,7 +114,7 @@ module _ (t : Bytes) (at : ℕ) (r : Bool) (s : Starts t at (41 ∷ []) r) where
       let w = h .few in
       record {
         value = y ∷ h .value;
-        is = rw (open-still e, readItems) (rw (x .is, h .is));
+        is = rw (open-still t at r s e, readItems) (rw (x .is, h .is));
         far = omega arith;
         within = h .within;
         counted = omega arith;
@@ -147,7 +136,7 @@ module _ (t : Bytes) (at : ℕ) (r : Bool) (s : Starts t at (41 ∷ []) r) where
 
     worse : (n : ℕ) → (spacedWord (dictionary t) (drop at t) ≡ refused 2) → readItems [] _∷_ (readWord (dictionary t)) (suc n) (drop at t) ≡ refused 2
     unfolding readItems spacedWord
-    worse n p = rw (open-still e, readItems) (rw p)
+    worse n p = rw (open-still t at r s e, readItems) (rw p)
 
     pub items-bad : x ≡ NoWord → ItemsOf k t at NoNames
     unfolding ItemsOf TookNames SpacedName Named
@@ -156,7 +145,7 @@ module _ (t : Bytes) (at : ℕ) (r : Bool) (s : Starts t at (41 ∷ []) r) where
     worse-rest : (n y i : ℕ) → NameRead (spacedWord (dictionary t) (drop at t)) t at y i → readItems [] _∷_ (readWord (dictionary t)) n (drop i t) ≡ refused 2
         → readItems [] _∷_ (readWord (dictionary t)) (suc n) (drop at t) ≡ refused 2
     unfolding readItems spacedWord
-    worse-rest n y i p q = rw (open-still e, readItems) (rw (p .is, q))
+    worse-rest n y i p q = rw (open-still t at r s e, readItems) (rw (p .is, q))
 
     pub items-rest-bad : (y i : ℕ) (h : Heads) → x ≡ Word y i → ItemsOf (k - 1) t i h → h ≡ NoNames → ItemsOf k t at NoNames
     unfolding ItemsOf TookNames SpacedName Named
@@ -169,7 +158,7 @@ module _ (t : Bytes) (at : ℕ) (r : Bool) (s : Starts t at (41 ∷ []) r) where
   unfolding NamesOf TookNames readNames wideParams
   names-close e = record {
     value = [];
-    is = rw (closes e, readNames);
+    is = rw (closes t at r s e, readNames);
     far = omega arith;
     within = starts-room t at 1 (41 ∷ []) r s e refl;
     counted = refl;
@@ -192,7 +181,7 @@ module _ (t : Bytes) (at : ℕ) (r : Bool) (s : Starts t at (41 ∷ []) r) where
       let z = b .few in
       record {
         value = y ∷ b .value;
-        is = rw (open-still e, readNames) (rw (a .is, b .is));
+        is = rw (open-still t at r s e, readNames) (rw (a .is, b .is));
         far = omega arith;
         within = b .within;
         counted = omega arith;
@@ -208,11 +197,11 @@ module _ (t : Bytes) (at : ℕ) (r : Bool) (s : Starts t at (41 ∷ []) r) where
 
     pub names-bad : x ≡ NoWord → NamesOf t at NoNames
     unfolding NamesOf TookNames NameOf Named readNames
-    names-bad u = let a = rw u at s′ in rw (open-still e, readNames) (rw a)
+    names-bad u = let a = rw u at s′ in rw (open-still t at r s e, readNames) (rw a)
 
     pub names-rest-bad : (y i : ℕ) (h : Heads) → x ≡ Word y i → ItemsOf 2 t i h → h ≡ NoNames → NamesOf t at NoNames
     unfolding NamesOf ItemsOf TookNames NameOf Named readNames readParams
-    names-rest-bad y i h u v w = let a = rw u at s′ in let b = rw w at v in rw (open-still e, readNames) (rw (a .is, b))
+    names-rest-bad y i h u v w = let a = rw u at s′ in let b = rw w at v in rw (open-still t at r s e, readNames) (rw (a .is, b))
 
 -- ---- sums fit
 module _ (t : Bytes) (at K : ℕ) (h : Heads) (i c q : ℕ) (v : ItemsOf K t at h) (w : h ≡ Names i c q) where

@@ -1,17 +1,16 @@
 -- Lines: an expression or a definition, with the end of the line. Assumes nothing.
 use mathlib.Core.Path.{_≡_, refl, sym, ap, _∙_}
 use mathlib.Core.Bool.{Bool, true, false}
-use mathlib.Core.Option.{none, some}
-use mathlib.Core.List.{List, [], _∷_, _++_}
-use Prim.Native.Nat.{ℕ, suc, _+_, _-_, _≤_, _<_}
+use mathlib.Core.List.{List, [], _∷_}
+use Prim.Native.Nat.{ℕ, _+_, _-_, _≤_}
 use native.Mathlib.Omega.{arith}
 use borrow.Author.Needs.{needs}
 use lib.ListN.{length, drop}
 use lib.Seq.{sets}
-use Rattle.atlite.specs.Base.{Base, Result, done, refused, _>>=_, bytes}
+use Rattle.atlite.specs.Base.{Result, done, refused, _>>=_, bytes}
 use Rattle.atlite.specs.Lexicon.{Bytes, newline, dictionary}
 use Rattle.atlite.specs.Script.{Src, Line, expression, define}
-use Rattle.atlite.specs.Reader.{Reading, eat, after, spaced, readWord, readExpr, readDefinition, readLine}
+use Rattle.atlite.specs.Reader.{Reading, eat, readWord, readExpr, readDefinition, readLine}
 use Rattle.words.specs.Wide.{wide, wideSrc, wideLine}
 use Rattle.scan.specs.Runs.{Starts}
 use Rattle.parse.specs.declared.Name.{Name}
@@ -20,8 +19,7 @@ use Rattle.parse.specs.declared.Step.{Step}
 use Rattle.parse.specs.declared.Step.the-variants.{Done, Bad}
 use Rattle.parse.specs.Atoms.{NameRead, Named, NameOf}
 use Rattle.parse.specs.NameLaws.{eat-starts, eat-not, starts-room, name-small}
-use Rattle.parse.specs.Heads.{name-within}
-use Rattle.parse.specs.Steps.{Place, Read, Took, Reads, exprs, readOne, ones, oneWords}
+use Rattle.parse.specs.Steps.{Read, Took, Reads, exprs, readOne, ones, oneWords}
 use Rattle.parse.specs.StepLaws.{place-name, place-more, step-within, shift}
 use Rattle.parse.specs.FormLaws.{bind-assoc}
 

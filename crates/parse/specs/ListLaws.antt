@@ -1,31 +1,26 @@
 -- Literals: fields and methods, item by item, each with its header word before its expression. Assumes nothing.
 use mathlib.Core.Path.{_≡_, refl, sym, ap, _∙_}
 use mathlib.Core.Bool.{Bool, true, false}
-use mathlib.Core.Option.{none, some}
 use mathlib.Core.List.{List, [], _∷_, _++_}
-use Prim.Native.Nat.{ℕ, zero, suc, _+_, _-_, _*_, _≤_, _<_}
+use Prim.Native.Nat.{ℕ, suc, _+_, _-_, _*_, _≤_, _<_}
 use native.Mathlib.Omega.{arith}
-use borrow.Author.Needs.{needs}
 use lib.ListN.{length, drop, set, length-append}
-use lib.Seq.{sets, length-sets}
-use Rattle.atlite.specs.Base.{Base, Result, done, refused, _>>=_, bytes}
+use lib.Seq.{sets}
+use Rattle.atlite.specs.Base.{Result, done, refused, _>>=_, bytes}
 use Rattle.atlite.specs.Lexicon.{Bytes, dictionary}
 use Rattle.atlite.specs.Script.{Src, SrcFields, SrcMethods}
 use Rattle.atlite.specs.Table.{countFields, countMethods}
-use Rattle.atlite.specs.Reader.{Reading, eat, after, spaced, readWord, readHead, readFields, readMethods, readExpr}
-use Rattle.words.specs.Wide.{wide, pair, wideMethod, wideSrc, wideFields, wideMethods}
+use Rattle.atlite.specs.Reader.{Reading, readWord, readFields, readMethods, readExpr}
+use Rattle.words.specs.Wide.{wide, wideSrc, wideFields, wideMethods}
 use Rattle.scan.specs.Runs.{Starts}
 use Rattle.parse.specs.declared.Name.{Name}
 use Rattle.parse.specs.declared.Name.the-variants.{Word, NoWord}
-use Rattle.parse.specs.declared.Header.{Header}
-use Rattle.parse.specs.declared.Header.the-variants.{Head, NoHead}
 use Rattle.parse.specs.declared.Step.{Step}
 use Rattle.parse.specs.declared.Step.the-variants.{Done, Bad}
 use Rattle.parse.specs.declared.Listed.{Listed}
 use Rattle.parse.specs.declared.Listed.the-variants.{Items, NoItems}
 use Rattle.parse.specs.Atoms.{NameRead, Named, NameOf}
-use Rattle.parse.specs.Heads.{HeadRead, TookHead, HeaderOf, readAll, readHeader}
-use Rattle.parse.specs.Steps.{Place, Read, Took, Reads, Closed, ListRead, TookList, Lists, readOne, ones, oneWords, readLiteral, literals, literalWords, fieldsFrom, methodsFrom, fieldAt, methodAt, readRest, EndRead, TookEnd, Ended}
+use Rattle.parse.specs.Steps.{Place, Read, Took, Reads, Closed, ListRead, TookList, Lists, readOne, ones, oneWords, readLiteral, literals, literalWords, fieldsFrom, methodsFrom, fieldAt, readRest, TookEnd, Ended}
 use Rattle.layout.specs.Writes.{sets-append}
 use Rattle.parse.specs.StepLaws.{headed}
 use Rattle.parse.specs.FormLaws.{bind-assoc}
@@ -80,6 +75,19 @@ module _ (L : Type 0) (enc : L → List ℕ) (num : L → ℕ) (con : Src → L 
         counted = omega arith;
         few = y .few;
       }
+
+-- ---- its expression, behind its header word w
+unfoldable pub OneRead : Bytes → ℕ → ℕ → ℕ → List ℕ → List ℕ → ℕ → ℕ → ℕ → Type 0
+OneRead t i o w old new n j p = Read (oneWords w) t i o old new (readOne (readExpr n (dictionary t)) (drop i t)) j p
+
+module _ (t : Bytes) (at i o w : ℕ) (old new : List ℕ) (a : Step) (far : at < i) (u : Reads (oneWords w) (ones t) t i o old new a) where
+  pub value-bad : (n : ℕ) → a ≡ Bad → length t - at < n → readOne (readExpr n (dictionary t)) (drop i t) ≡ refused 2
+  unfolding Reads Took ones
+  value-bad n d l = rw d at (u n (omega arith))
+
+  pub value : (n j p : ℕ) → length t - at < n → a ≡ Done j p → OneRead t i o w old new n j p
+  unfolding Reads Took ones OneRead
+  value n j p l d = rw d at (u n (omega arith))
 
 -- ---- fields
 module _ (t : Bytes) (at o b : ℕ) (old new : List ℕ) where
@@ -153,22 +161,18 @@ module _ (t : Bytes) (at o b : ℕ) (old new : List ℕ) where
       unfolding NameOf Named
       named = rw e at s
 
-      value-bad : (n : ℕ) → a ≡ Bad → length t - at < n → readOne (readExpr n (dictionary t)) (drop i t) ≡ refused 2
-      unfolding Reads Took ones
-      value-bad n d l = let g = named .far in rw d at (u n (omega arith))
-
       pub field-value-bad : a ≡ Bad → Lists wideFields countFields 4 b (fieldAt b t) t at o old new NoItems
       unfolding Lists TookList fieldAt
-      field-value-bad d n l = let y = named in rw (y .is) (rw (value-bad n d l))
+      field-value-bad d n l = let y = named in rw (y .is) (rw (value-bad t at i o w old m₁ a (y .far) u n d l))
 
-      One : ℕ → ℕ → ℕ → Type 0
-      One n j p = Read (oneWords w) t i o old m₁ (readOne (readExpr n (dictionary t)) (drop i t)) j p
+      abbrev One : ℕ → ℕ → ℕ → Type 0
+      One n j p = OneRead t i o w old m₁ n j p
 
       Rest : ℕ → ℕ → ℕ → ℕ → ℕ → ℕ → Type 0
       Rest n j p k q c = ListRead wideFields countFields 4 (b + 1) t j p m₁ new (readFields (dictionary t) (readExpr n (dictionary t)) (4 - (b + 1)) (drop j t)) k q c
 
       field-core : (n j p k q c : ℕ) → One n j p → Rest n j p k q c → ListRead wideFields countFields 4 b t at o old new (fieldAt b t n (drop at t)) k q c
-      unfolding fieldAt wideSrc countFields One Rest
+      unfolding fieldAt wideSrc countFields OneRead Rest
       field-core n j p k q c z v =
           let y = named in
           let g = y .far in
@@ -176,20 +180,16 @@ module _ (t : Bytes) (at o b : ℕ) (old new : List ℕ) where
           (rw (y .is) (rw (z .is) (rw (v .is)))) (omega arith)
 
       field-last : (n j p : ℕ) → One n j p → readFields (dictionary t) (readExpr n (dictionary t)) (4 - (b + 1)) (drop j t) ≡ refused 2 → fieldAt b t n (drop at t) ≡ refused 2
-      unfolding fieldAt One
+      unfolding fieldAt OneRead
       field-last n j p z v = let y = named in rw (y .is) (rw (z .is) (rw v))
-
-      value : (n j p : ℕ) → length t - at < n → a ≡ Done j p → One n j p
-      unfolding Reads Took ones One
-      value n j p l d = let g = named .far in rw d at (u n (omega arith))
 
       pub field-done : (j p : ℕ) (c : Listed) → a ≡ Done j p → Lists wideFields countFields 4 (b + 1) (fieldsFrom (b + 1) t) t j p m₁ new c
           → Lists wideFields countFields 4 b (fieldAt b t) t at o old new c
-      unfolding Lists TookList fieldsFrom One Rest
+      unfolding Lists TookList fieldsFrom OneRead Rest
       field-done j p (Items k q c) d v n l =
-          let z = value n j p l d in let g = named .far in let g′ = z .far in field-core n j p k q c z (v n (omega arith))
+          let z = value t at i o w old m₁ a (named .far) u n j p l d in let g = named .far in let g′ = z .far in field-core n j p k q c z (v n (omega arith))
       field-done j p NoItems d v n l =
-          let z = value n j p l d in let g = named .far in let g′ = z .far in field-last n j p z (v n (omega arith))
+          let z = value t at i o w old m₁ a (named .far) u n j p l d in let g = named .far in let g′ = z .far in field-last n j p z (v n (omega arith))
 
 -- ---- literals
 module _ (t : Bytes) (at p o k c : ℕ) (old m₁ new : List ℕ) (b : Listed) (s : Lists wideMethods countMethods 4 0 (methodsFrom 0 t) t at p old m₁ b) where

@@ -1,34 +1,27 @@
 -- Methods, in the same way as fields; the header word has the name and the parameters. Assumes nothing.
-use mathlib.Core.Path.{_≡_, refl, sym, ap, _∙_}
+use mathlib.Core.Path.{_≡_, refl, _∙_}
 use mathlib.Core.Bool.{Bool, true, false}
-use mathlib.Core.Option.{none, some}
-use mathlib.Core.List.{List, [], _∷_, _++_}
-use Prim.Native.Nat.{ℕ, zero, suc, _+_, _-_, _*_, _≤_, _<_}
+use mathlib.Core.List.{List, [], _∷_}
+use Prim.Native.Nat.{ℕ, suc, _+_, _-_, _*_, _≤_, _<_}
 use native.Mathlib.Omega.{arith}
-use borrow.Author.Needs.{needs}
-use lib.ListN.{length, drop, set, length-append}
-use lib.Seq.{sets, length-sets}
-use Rattle.atlite.specs.Base.{Base, Result, done, refused, _>>=_, bytes}
+use lib.ListN.{length, drop}
+use Rattle.atlite.specs.Base.{done, refused, _>>=_, bytes}
 use Rattle.atlite.specs.Lexicon.{Bytes, dictionary}
-use Rattle.atlite.specs.Script.{Src, SrcFields, SrcMethods}
-use Rattle.atlite.specs.Table.{countFields, countMethods}
-use Rattle.atlite.specs.Reader.{Reading, eat, after, spaced, readWord, readHead, readFields, readMethods, readExpr}
-use Rattle.words.specs.Wide.{wide, pair, wideMethod, wideSrc, wideFields, wideMethods}
+use Rattle.atlite.specs.Script.{SrcMethods}
+use Rattle.atlite.specs.Table.{countMethods}
+use Rattle.atlite.specs.Reader.{readMethods, readExpr}
+use Rattle.words.specs.Wide.{wideSrc, wideMethods}
 use Rattle.scan.specs.Runs.{Starts}
-use Rattle.parse.specs.declared.Name.{Name}
-use Rattle.parse.specs.declared.Name.the-variants.{Word, NoWord}
 use Rattle.parse.specs.declared.Header.{Header}
 use Rattle.parse.specs.declared.Header.the-variants.{Head, NoHead}
 use Rattle.parse.specs.declared.Step.{Step}
 use Rattle.parse.specs.declared.Step.the-variants.{Done, Bad}
 use Rattle.parse.specs.declared.Listed.{Listed}
 use Rattle.parse.specs.declared.Listed.the-variants.{Items, NoItems}
-use Rattle.parse.specs.Atoms.{NameRead, Named, NameOf}
 use Rattle.parse.specs.Heads.{HeadRead, TookHead, HeaderOf, readAll, readHeader}
-use Rattle.parse.specs.Steps.{Place, Read, Took, Reads, Closed, ListRead, TookList, Lists, readOne, ones, oneWords, readLiteral, literals, literalWords, fieldsFrom, methodsFrom, fieldAt, methodAt}
-use Rattle.layout.specs.Writes.{sets-append}
+use Rattle.parse.specs.Steps.{Place, Reads, ListRead, TookList, Lists, readOne, ones, oneWords, methodsFrom, methodAt}
 use Rattle.parse.specs.FormLaws.{bind-assoc}
-use Rattle.parse.specs.ListLaws.{item-core}
+use Rattle.parse.specs.ListLaws.{item-core, OneRead, value-bad, value}
 
 -- ---- methods
 module _ (t : Bytes) (at o b : ℕ) (old new : List ℕ) where
@@ -102,43 +95,35 @@ module _ (t : Bytes) (at o b : ℕ) (old new : List ℕ) where
       unfolding HeaderOf TookHead
       named = rw e at s
 
-      value-bad : (n : ℕ) → a ≡ Bad → length t - at < n → readOne (readExpr n (dictionary t)) (drop i t) ≡ refused 2
-      unfolding Reads Took ones
-      value-bad n d l = let g = named .far in rw d at (u n (omega arith))
-
       pub method-value-bad : a ≡ Bad → Lists wideMethods countMethods 4 b (methodAt b t) t at o old new NoItems
       unfolding Lists TookList methodAt
-      method-value-bad d n l = let y = named in rw (y .is) (rw (value-bad n d l))
+      method-value-bad d n l = let y = named in rw (y .is) (rw (value-bad t at i o w old m₁ a (y .far) u n d l))
 
-      One : ℕ → ℕ → ℕ → Type 0
-      One n j p = Read (oneWords w) t i o old m₁ (readOne (readExpr n (dictionary t)) (drop i t)) j p
+      abbrev One : ℕ → ℕ → ℕ → Type 0
+      One n j p = OneRead t i o w old m₁ n j p
 
       Rest : ℕ → ℕ → ℕ → ℕ → ℕ → ℕ → Type 0
       Rest n j p k q c = ListRead wideMethods countMethods 4 (b + 1) t j p m₁ new (readMethods (dictionary t) (readExpr n (dictionary t)) (4 - (b + 1)) (drop j t)) k q c
 
       method-core : (n j p k q c : ℕ) → HeadRead (readHeader (dictionary t) (drop at t)) t at i w → One n j p → Rest n j p k q c
           → ListRead wideMethods countMethods 4 b t at o old new (methodAt b t n (drop at t)) k q c
-      unfolding methodAt wideSrc countMethods One Rest
+      unfolding methodAt wideSrc countMethods OneRead Rest
       method-core n j p k q c y z v =
           let g = y .far in
           item-core SrcMethods wideMethods countMethods (SrcMethods.method (y .value .0) (y .value .1)) w (λ e l. rw (y .word)) (λ e l. refl) t at o b i j p k q c old m₁ new _ _ _ z v
           (rw (y .is) (rw (z .is) (rw (v .is)))) (omega arith)
 
       method-last : (n j p : ℕ) → One n j p → readMethods (dictionary t) (readExpr n (dictionary t)) (4 - (b + 1)) (drop j t) ≡ refused 2 → methodAt b t n (drop at t) ≡ refused 2
-      unfolding methodAt One
+      unfolding methodAt OneRead
       method-last n j p z v = let y = named in rw (y .is) (rw (z .is) (rw v))
-
-      value : (n j p : ℕ) → length t - at < n → a ≡ Done j p → One n j p
-      unfolding Reads Took ones One
-      value n j p l d = let g = named .far in rw d at (u n (omega arith))
 
       pub method-done : (j p : ℕ) (c : Listed) → a ≡ Done j p → Lists wideMethods countMethods 4 (b + 1) (methodsFrom (b + 1) t) t j p m₁ new c
           → Lists wideMethods countMethods 4 b (methodAt b t) t at o old new c
-      unfolding Lists TookList methodsFrom One Rest
+      unfolding Lists TookList methodsFrom OneRead Rest
       method-done j p (Items k q c) d v n l =
-          let z = value n j p l d in let g = named .far in let g′ = z .far in method-core n j p k q c named z (v n (omega arith))
+          let z = value t at i o w old m₁ a (named .far) u n j p l d in let g = named .far in let g′ = z .far in method-core n j p k q c named z (v n (omega arith))
       method-done j p NoItems d v n l =
-          let z = value n j p l d in let g = named .far in let g′ = z .far in method-last n j p z (v n (omega arith))
+          let z = value t at i o w old m₁ a (named .far) u n j p l d in let g = named .far in let g′ = z .far in method-last n j p z (v n (omega arith))
 
 module _ (t : Bytes) (at : ℕ) (x : Header) (i w : ℕ) (e : x ≡ Head i w) (s : HeaderOf t at x) where
   pub place-header : (o : ℕ) → Place t at o → Place t i o

@@ -1,18 +1,17 @@
 -- A word has the number that the dictionary gives it. Assumes nothing.
 use mathlib.Core.Path.{_≡_, refl, sym, ap, _∙_}
-use mathlib.Core.Bool.{Bool, true, false, false≢true}
+use mathlib.Core.Bool.{Bool, true, false}
 use mathlib.Core.Option.{none, some}
 use mathlib.Core.List.{List, [], _∷_}
-use Prim.Native.Nat.{ℕ, zero, suc, _+_, _-_, _≤_, _<_}
+use Prim.Native.Nat.{ℕ, suc, _+_, _-_, _≤_, _<_}
 use native.Mathlib.Omega.{arith}
 use borrow.Author.Needs.{needs}
-use borrow.Author.Tests.{eq-eqb}
 use lib.Dec.{eqb}
 use lib.ListN.{length, drop}
 use lib.Seq.{slice, length-slice}
 use Rattle.atlite.specs.Base.{Base, Result, done, refused, require, orRefuse, _>>=_, _>>_, bytes, sameBytes, if_then_else_}
-use Rattle.atlite.specs.Lexicon.{Bytes, isWord, letterFirst, place, numberOf, dictionary}
-use Rattle.atlite.specs.Reader.{item, eat, after, readWord, spaced, spacedWord}
+use Rattle.atlite.specs.Lexicon.{Bytes, isWord, place, numberOf, dictionary}
+use Rattle.atlite.specs.Reader.{eat, after, readWord, spaced, spacedWord}
 use Rattle.atlite.specs.Facts.{same-true, same-false-sym}
 use Rattle.scan.specs.Runs.{Run, Starts, index}
 use Rattle.scan.specs.Keywords.{index-le}
@@ -20,7 +19,7 @@ use Rattle.scan.specs.Codes.{lowPart, highPart, Placed}
 use Rattle.scan.specs.Scans.{word-nonempty, word-is, not-apply, word-room}
 use Rattle.parse.specs.declared.Name.{Name}
 use Rattle.parse.specs.declared.Name.the-variants.{Word, NoWord}
-use Rattle.parse.specs.Atoms.{Ready, NameRead, Named, NameOf, SpacedName}
+use Rattle.parse.specs.Atoms.{Ready, Named, NameOf, SpacedName}
 
 -- ---- places
 place-some : (ws : List Bytes) (w : Bytes) (n : ℕ) → index ws w < length ws → place n ws w ≡ some (index ws w + n)
@@ -117,6 +116,15 @@ eat-not t at b r s k = go (drop at t) (rw k at s)
         test : (x : Bool) → (if x then some i else none) ≡ none → (require 2 x >> done i) ≡ refused 2
         test true e = absurd (let z : _≡_ {A = ℕ} 0 1 = cc in omega arith)
         test false e = refl
+
+-- the closing bracket, there or not
+pub closes : (t : Bytes) (at : ℕ) (r : Bool) → Starts t at (41 ∷ []) r → r ≡ true → after (41 ∷ []) (drop at t) ≡ some (drop (at + 1) t)
+unfolding Starts
+closes t at r s k = rw k at s .0
+
+pub open-still : (t : Bytes) (at : ℕ) (r : Bool) → Starts t at (41 ∷ []) r → r ≡ false → after (41 ∷ []) (drop at t) ≡ none
+unfolding Starts
+open-still t at r s k = rw k at s
 
 pub starts-room : (t : Bytes) (at k : ℕ) (w : Bytes) (r : Bool) → Starts t at w r → r ≡ true → k ≡ length w → at + k ≤ length t
 unfolding Starts

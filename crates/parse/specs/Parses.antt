@@ -4,12 +4,12 @@ use mathlib.Core.Bool.{Bool, true, false, false≢true}
 use mathlib.Core.Option.{none, some}
 use mathlib.Core.List.{List, [], _∷_, _++_, append-nil, append-assoc}
 use Prim.Native.Nat.{ℕ, suc, _+_, _-_, _≤_, _<_}
-use native.Mathlib.Nat.{zero-add, sub-zero}
+use native.Mathlib.Nat.{sub-zero}
 use native.Mathlib.Omega.{arith}
 use borrow.Author.Needs.{needs}
 use lib.ListN.{length, drop, take, length-append, drop-of-length-le}
 use lib.Seq.{sets, sets-eq, length-sets, take-append-seam, drop-cons}
-use Rattle.atlite.specs.Base.{Base, Result, done, refused, _>>=_, bytes}
+use Rattle.atlite.specs.Base.{Result, done, refused, _>>=_, bytes}
 use Rattle.atlite.specs.Lexicon.{Bytes, dictionary}
 use Rattle.atlite.specs.Script.{Src, Line, expression, define, join}
 use Rattle.atlite.specs.Reader.{eat, after, spaced, readWord, readExpr, readDefinition, readLine, readLines, readScript}
@@ -17,16 +17,13 @@ use Rattle.atlite.specs.Facts.{Every, holds, every-done, given}
 use Rattle.layout.specs.Pack.{flat}
 use Rattle.words.specs.Wide.{wideLine, wideLines}
 use Rattle.scan.specs.Runs.{Starts}
-use Rattle.scan.specs.Codes.{Holds}
 use Rattle.parse.specs.declared.Step.{Step}
 use Rattle.parse.specs.declared.Step.the-variants as step
 use Rattle.parse.specs.declared.Parsed.{Parsed}
 use Rattle.parse.specs.declared.Parsed.the-variants.{Done, Bad}
-use Rattle.parse.specs.Atoms.{Ready}
 use Rattle.parse.specs.Steps.{Place, Read, Took, Reads}
 use Rattle.layout.specs.Writes.{sets-append}
 use Rattle.parse.specs.Lines.{lineOf}
-use Rattle.parse.specs.FormLaws.{bind-assoc}
 
 -- no definition comes next
 unfoldable pub Closing : Bytes → ℕ → Bool → Type 0

@@ -1,24 +1,24 @@
 -- The last part of a form that has a word between its parts. Assumes nothing.
-use mathlib.Core.Path.{_≡_, refl, sym, ap, _∙_}
-use mathlib.Core.List.{List, [], _∷_, _++_}
-use Prim.Native.Nat.{ℕ, suc, _+_, _-_, _*_, _≤_, _<_}
+use mathlib.Core.Path.{_≡_, ap, _∙_}
+use mathlib.Core.List.{List, _∷_, _++_}
+use Prim.Native.Nat.{ℕ, _+_, _-_, _<_}
 use native.Mathlib.Omega.{arith}
 use lib.ListN.{length, drop, set, length-append}
 use lib.Seq.{sets}
-use Rattle.atlite.specs.Base.{Result, done, refused, _>>=_}
+use Rattle.atlite.specs.Base.{done, _>>=_}
 use Rattle.atlite.specs.Lexicon.{Bytes, dictionary}
-use Rattle.atlite.specs.Script.{Src, Srcs}
+use Rattle.atlite.specs.Script.{Src}
 use Rattle.atlite.specs.Table.{countSrcs}
-use Rattle.atlite.specs.Reader.{Reading, eat, spaced, spacedWord, readArgs, readExpr}
+use Rattle.atlite.specs.Reader.{spaced, spacedWord, readArgs, readExpr}
 use Rattle.words.specs.Wide.{wide, pair, wideSrc, wideSrcs}
 use Rattle.parse.specs.declared.Name.{Name}
-use Rattle.parse.specs.declared.Name.the-variants.{Word, NoWord}
+use Rattle.parse.specs.declared.Name.the-variants.{Word}
 use Rattle.parse.specs.declared.Step.{Step}
 use Rattle.parse.specs.declared.Step.the-variants.{Done, Bad}
 use Rattle.parse.specs.declared.Listed.{Listed}
 use Rattle.parse.specs.declared.Listed.the-variants.{Items, NoItems}
 use Rattle.parse.specs.Atoms.{NameRead, Named, SpacedName}
-use Rattle.parse.specs.Steps.{Read, Took, Reads, ClosedAt, Closed, ListRead, TookList, Lists, PartRead, TookPart, Lasts, Argued, spaceds, readOne, readPair, twos, twoWords, readMid, mids, midWords, readSend, sends, sendWords, argsFrom}
+use Rattle.parse.specs.Steps.{Read, Took, Reads, Closed, ListRead, TookList, Lists, TookPart, Lasts, Argued, spaceds, readOne, readPair, twos, twoWords, readMid, mids, midWords, readSend, sends, sendWords, argsFrom}
 use Rattle.layout.specs.Writes.{sets-append}
 use Rattle.parse.specs.StepLaws.{headed}
 use Rattle.parse.specs.FormLaws.{bind-assoc}

@@ -1,22 +1,19 @@
 -- One step of the descent after another: positions, writes, and the forms of expressions and words. Assumes nothing.
-use mathlib.Core.Path.{_≡_, refl, sym, ap, _∙_}
+use mathlib.Core.Path.{_≡_, refl, ap, _∙_}
 use mathlib.Core.Bool.{Bool, true, false}
-use mathlib.Core.Option.{none, some}
-use mathlib.Core.List.{List, [], _∷_, _++_}
+use mathlib.Core.List.{List, [], _∷_}
 use Prim.Native.Nat.{ℕ, zero, suc, _+_, _-_, _*_, _≤_, _<_}
-use native.Mathlib.Nat.{add-zero, add-suc, suc-add, zero-add}
 use native.Mathlib.Numerals.{add-one}
 use native.Mathlib.Omega.{arith}
-use borrow.Author.Needs.{needs}
-use lib.ListN.{length, drop, set, length-append, length-set}
-use lib.Seq.{sets, length-sets, set-comm}
+use lib.ListN.{length, drop, set, length-append}
+use lib.Seq.{sets, set-comm}
 use Rattle.atlite.specs.Base.{Result, done, refused, _>>=_}
 use Rattle.atlite.specs.Lexicon.{Bytes, dictionary}
 use Rattle.atlite.specs.Script.{Src, Srcs}
 use Rattle.atlite.specs.Table.{countSrcs}
-use Rattle.atlite.specs.Reader.{Reading, eat, after, spaced, spacedWord, readArgs, readItems, readExpr}
+use Rattle.atlite.specs.Reader.{Reading, eat, spaced, spacedWord, readItems, readExpr}
 use Rattle.layout.specs.Writes.{sets-append}
-use Rattle.words.specs.Wide.{wide, pair, wideSrc, wideSrcs}
+use Rattle.words.specs.Wide.{wide, wideSrc, wideSrcs}
 use Rattle.scan.specs.Runs.{Run, Starts}
 use Rattle.parse.specs.declared.Name.{Name}
 use Rattle.parse.specs.declared.Name.the-variants.{Word, NoWord}
@@ -25,8 +22,8 @@ use Rattle.parse.specs.declared.Step.the-variants.{Done, Bad}
 use Rattle.parse.specs.declared.Listed.{Listed}
 use Rattle.parse.specs.declared.Listed.the-variants.{Items, NoItems}
 use Rattle.parse.specs.Atoms.{NameRead, Named, NameOf, SpacedName}
-use Rattle.parse.specs.NameLaws.{eat-starts, eat-not, starts-room}
-use Rattle.parse.specs.Steps.{Place, Read, Took, Reads, ClosedAt, Closed, ListRead, TookList, Lists, spaceds, exprs, readOne, ones, oneWords, readPair, twos, twoWords, readGet, gets, getWords, readMid, mids, midWords, readSend, sends, sendWords, argsFrom}
+use Rattle.parse.specs.NameLaws.{eat-starts, eat-not, closes, open-still, starts-room}
+use Rattle.parse.specs.Steps.{Place, Read, Took, Reads, Closed, ListRead, TookList, Lists, spaceds, exprs, readOne, ones, oneWords, readPair, twos, twoWords, readGet, gets, getWords, readMid, mids, midWords, readSend, sends, sendWords, argsFrom}
 
 -- ---- writes
 set-before : (xs l : List ℕ) (i k h : ℕ) → i < k → set (sets l k xs) i h ≡ sets (set l i h) k xs
@@ -248,18 +245,10 @@ module _ (t : Bytes) (at o : ℕ) (old m₁ new : List ℕ) (a : Step) (s : Read
 
 -- ---- arguments
 module _ (t : Bytes) (at o b : ℕ) (old new : List ℕ) (r : Bool) (s : Starts t at (41 ∷ []) r) where
-  closes : r ≡ true → after (41 ∷ []) (drop at t) ≡ some (drop (at + 1) t)
-  unfolding Starts
-  closes k = rw k at s .0
-
-  open-still : r ≡ false → after (41 ∷ []) (drop at t) ≡ none
-  unfolding Starts
-  open-still k = rw k at s
-
   args-end : (n k : ℕ) → r ≡ true → readItems Srcs.nil Srcs.cons (readExpr n (dictionary t)) k (drop at t) ≡ done (Srcs.nil, drop (at + 1) t)
   unfolding readItems
   args-end n zero e = rw (eat-starts t at 41 r s e)
-  args-end n (suc k) e = rw (closes e, readItems)
+  args-end n (suc k) e = rw (closes t at r s e, readItems)
 
   pub args-close : r ≡ true → b ≤ 3 → Lists wideSrcs countSrcs 3 b (argsFrom b t) t at o old old (Items (at + 1) o b)
   unfolding Lists TookList argsFrom wideSrc countSrcs
@@ -286,7 +275,7 @@ module _ (t : Bytes) (at o b : ℕ) (old new : List ℕ) (r : Bool) (s : Starts 
     args-worse : (n k : ℕ) → spaced (readExpr n (dictionary t)) (drop at t) ≡ refused 2
         → readItems Srcs.nil Srcs.cons (readExpr n (dictionary t)) (suc k) (drop at t) ≡ refused 2
     unfolding readItems
-    args-worse n k p = rw (open-still e, readItems) (rw p)
+    args-worse n k p = rw (open-still t at r s e, readItems) (rw p)
 
     pub args-bad : a ≡ Bad → Lists wideSrcs countSrcs 3 b (argsFrom b t) t at o old new NoItems
     unfolding Lists TookList argsFrom Reads Took spaceds
@@ -308,7 +297,7 @@ module _ (t : Bytes) (at o b : ℕ) (old new : List ℕ) (r : Bool) (s : Starts 
         let num = y .counted in
         record {
           value = Srcs.cons (x .value) (y .value);
-          is = rw (open-still e, readItems) (rw (x .is) (rw (y .is)));
+          is = rw (open-still t at r s e, readItems) (rw (x .is) (rw (y .is)));
           far = omega arith;
           within = y .within;
           wrote = y .wrote ∙ rw (x .wrote, a₁) (sets-append (wideSrc (x .value)) (wideSrcs (y .value)) old o);
@@ -322,7 +311,7 @@ module _ (t : Bytes) (at o b : ℕ) (old new : List ℕ) (r : Bool) (s : Starts 
         → readItems Srcs.nil Srcs.cons (readExpr n (dictionary t)) (3 - (b + 1)) (drop i t) ≡ refused 2
         → readItems Srcs.nil Srcs.cons (readExpr n (dictionary t)) (suc (3 - (b + 1))) (drop at t) ≡ refused 2
     unfolding readItems
-    args-last n i v x y = rw (open-still e, readItems) (rw x (rw y))
+    args-last n i v x y = rw (open-still t at r s e, readItems) (rw x (rw y))
 
     pub args-more : (i p : ℕ) (c : Listed) → a ≡ Done i p → Lists wideSrcs countSrcs 3 (b + 1) (argsFrom (b + 1) t) t i p m₁ new c
         → Lists wideSrcs countSrcs 3 b (argsFrom b t) t at o old new c

@@ -1,17 +1,16 @@
 -- What the functions of the descent answer: the same as the reader does of the text behind the position, with the wide words of
 -- what was read written in their place. The reader's fuel is any number above what is left of the text. Assumes nothing.
 use mathlib.Core.Path.{_≡_}
-use mathlib.Core.List.{List, [], _∷_, _++_}
+use mathlib.Core.List.{List, _∷_, _++_}
 use mathlib.Core.Option.{none, some}
 use Prim.Native.Nat.{ℕ, _+_, _-_, _*_, _≤_, _<_}
 use lib.ListN.{length, drop, set, getElem?}
 use lib.Seq.{sets}
 use Rattle.atlite.specs.Base.{Result, done, refused, _>>=_, orRefuse}
-use Rattle.atlite.specs.Term.{Kind}
 use Rattle.atlite.specs.Lexicon.{Bytes, close, dictionary}
 use Rattle.atlite.specs.Script.{Src, Srcs, SrcFields, SrcMethods}
 use Rattle.atlite.specs.Table.{countSrcs, countFields, countMethods}
-use Rattle.atlite.specs.Reader.{Reading, Operator, operators, operator, item, eat, readWord, spaced, spacedWord, readArgs, readItems, readFields, readMethods, readForm, readExpr}
+use Rattle.atlite.specs.Reader.{Reading, operators, operator, item, eat, readWord, spaced, spacedWord, readArgs, readItems, readFields, readMethods, readForm, readExpr}
 use Rattle.words.specs.Wide.{wide, pair, wideSrc, wideSrcs, wideFields, wideMethods}
 use Rattle.parse.specs.Heads.{readHeader}
 use Rattle.parse.specs.declared.Step.{Step}

@@ -5,8 +5,6 @@ pub mod Printed
 pub mod PutLaws
 pub mod HeadLaws
 pub mod ShowLaws
-pub mod Spelling
-pub mod Says
 pub mod Nesting
 pub mod Nested
 pub mod Shows

@@ -2,10 +2,8 @@
 -- the nesting of each of its lines. By induction on the expressions; a text that closes all its brackets only raises the most that
 -- were open. Assumes nothing.
 use mathlib.Core.List.{List, [], _∷_}
-use Prim.Native.Nat.{ℕ, suc, _-_, max}
-use Rattle.atlite.specs.Base.{all}
+use Prim.Native.Nat.{ℕ, suc, max}
 use Rattle.atlite.specs.Script.{Src, num, null, var, plus, percent, get, set, call, send, ask, letIn, future, fn, resolve, when, seq, literal, Srcs, nil, cons, SrcFields, noField, field, SrcMethods, noMethod, method, Line, expression, define}
-use Rattle.atlite.specs.Reader.{depth}
 
 unfoldable mutual
   pub nesting : Src → ℕ

@@ -1,75 +1,13 @@
--- The text that words stand for, whatever words they are: what the printer's code is proved against. A word has an opening, a
--- number of operands and a closing bracket; each operand stands behind a space, and a name may stand behind the first. So one
--- rule prints every form, and only `keyword`, `first`, `second`, `after` and `arity` know the kinds. Assumes nothing.
-use Prim.Native.Nat.{ℕ, zero, suc, _+_, _-_, _*_, _/_, _%_}
+-- The text of a table's lines, whatever words they are: what the printer's code is proved against. Assumes nothing.
+use Prim.Native.Nat.{ℕ, zero, suc, _+_, _/_, _%_}
 use mathlib.Core.Bool.{cond}
 use mathlib.Core.List.{List, [], _∷_, _++_}
-use lib.ListN.{getD}
 use lib.Dec.{eqb, ltb}
-use Rattle.atlite.specs.Base.{bytes}
 use Rattle.atlite.specs.Lexicon.{Bytes}
-use Rattle.atlite.specs.Printer.{printNumber}
+use Rattle.showing.specs.Shown.{shown}
+pub use Rattle.showing.specs.Shown.{payload}
 
--- ---- names
--- no name stands here
-abbrev pub noName : ℕ
-noName = 127
-
--- a byte of a word; zero is none
-unfoldable pub letterIn : ℕ → Bytes
-letterIn b = cond (eqb b 0) [] (b ∷ [])
-
--- four letters, the first lowest
-unfoldable pub lettersIn : ℕ → Bytes
-lettersIn v = letterIn (v % 256) ++ (letterIn (v / 256 % 256) ++ (letterIn (v / 65536 % 256) ++ letterIn (v / 16777216)))
-
--- the word of number x in the dictionary of the table t
-unfoldable pub wordIn : List ℕ → ℕ → Bytes
-wordIn t x =
-    cond (ltb x 8)
-    (cond (eqb x 0) (bytes "this") (cond (eqb x 7) (bytes "apply") []))
-    (cond (eqb x noName) [] (lettersIn (getD t (3 * x - 21) 0) ++ (lettersIn (getD t (3 * x - 20) 0) ++ lettersIn (getD t (3 * x - 19) 0))))
-
--- the same behind a space
-unfoldable pub nameIn : List ℕ → ℕ → Bytes
-nameIn t x = cond (eqb x noName) [] ((32 ∷ []) ++ wordIn t x)
-
--- ---- one word of an expression
-abbrev pub payload : ℕ
-payload = 16777216
-
-unfoldable pub keyword : ℕ → Bytes
-keyword k =
-    cond (eqb k 7) (bytes "plus") (cond (eqb k 8) (bytes "percent") (cond (eqb k 9) (bytes "get") (cond (eqb k 10) (bytes "set")
-    (cond (eqb k 11) (bytes "let") (cond (eqb k 12) (bytes "future") (cond (eqb k 13) (bytes "call") (cond (eqb k 14) (bytes "send")
-    (cond (eqb k 15) (bytes "object") (cond (eqb k 16) (bytes "isolate") (cond (eqb k 17) (bytes "actor") (cond (eqb k 64) (bytes "ask")
-    (cond (eqb k 65) (bytes "fn") (cond (eqb k 66) (bytes "resolve") (cond (eqb k 67) (bytes "when") (cond (eqb k 68) (bytes "seq")
-    (cond (eqb k 128) (bytes "field") (cond (eqb k 130) (bytes "def") (bytes "method"))))))))))))))))))
-
--- the name behind the operator
-unfoldable pub first : ℕ → ℕ
-first h =
-    cond (ltb (h / payload) 11) noName (cond (ltb (h / payload) 13) (h % 128)
-    (cond (eqb (h / payload) 65) (h % 128) (cond (ltb (h / payload) 128) noName (h % 128))))
-
--- the name behind that one
-unfoldable pub second : ℕ → ℕ
-second h = cond (eqb (h / payload) 12) (h / 128 % 128) noName
-
--- three names in brackets, behind a space
-unfoldable pub placesIn : List ℕ → ℕ → ℕ → ℕ → Bytes
-placesIn t x y z = (32 ∷ 40 ∷ []) ++ (wordIn t x ++ (nameIn t y ++ (nameIn t z ++ (41 ∷ []))))
-
--- the parameters of a method
-unfoldable pub paramsIn : List ℕ → ℕ → Bytes
-paramsIn t h = cond (ltb (h / payload) 192) [] (placesIn t (h / 512 % 128) (h / 65536 % 128) (h / 8388608 % 128))
-
--- the name behind the first operand
-unfoldable pub after : ℕ → ℕ
-after h =
-    cond (ltb (h / payload) 9) noName (cond (ltb (h / payload) 11) (h % 128) (cond (ltb (h / payload) 13) noName
-    (cond (ltb (h / payload) 15) (h % 128) (cond (eqb (h / payload) 64) (h % 128) (cond (eqb (h / payload) 67) (h % 128) noName)))))
-
+-- how many operands a word of a table has, if its kind is 7 or more
 unfoldable pub arity : ℕ → ℕ
 arity h =
     cond (ltb (h / payload) 9) 2 (cond (eqb (h / payload) 9) 1 (cond (ltb (h / payload) 12) 2 (cond (eqb (h / payload) 12) 1
@@ -77,42 +15,7 @@ arity h =
     (cond (eqb (h / payload) 64) (1 + h / 512 % 4) (cond (eqb (h / payload) 65) 1 (cond (ltb (h / payload) 69) 2
     (cond (ltb (h / payload) 128) 0 1))))))))))
 
--- what stands before the operands
-unfoldable pub headIn : List ℕ → ℕ → Bytes
-headIn t h = (40 ∷ []) ++ (keyword (h / payload) ++ (nameIn t (first h) ++ (nameIn t (second h) ++ paramsIn t h)))
-
--- a word with no operands and no brackets
-unfoldable pub leafIn : List ℕ → ℕ → Bytes
-leafIn t h = cond (eqb (h / payload) 1) (bytes "null") (cond (eqb (h / payload) 2) (printNumber (h % payload)) (wordIn t (h % 128)))
-
--- ---- expressions and lines
--- a text, and the words that are left
-pub record Text : Type 0 where
-  pub text : Bytes
-  pub rest : List ℕ
-
--- n operands, each shown by S; the name x stands behind the first
-unfoldable pub operandsIn : List ℕ → (List ℕ → Text) → ℕ → ℕ → List ℕ → Text
-operandsIn t S x zero w = record { text = []; rest = w }
-operandsIn t S x (suc n) w =
-    let a = S w in
-    let b = operandsIn t S noName n (a .rest) in
-    record { text = (32 ∷ []) ++ (a .text ++ (nameIn t x ++ b .text)); rest = b .rest }
-
-unfoldable pub formIn : List ℕ → (List ℕ → Text) → ℕ → List ℕ → Text
-formIn t S h w = let a = operandsIn t S (after h) (arity h) w in record { text = headIn t h ++ (a .text ++ (41 ∷ [])); rest = a .rest }
-
--- the expression that w begins with, if at most n of its words lie in one another
-unfoldable pub shown : List ℕ → ℕ → List ℕ → Text
-shown t zero w = record { text = []; rest = w }
-shown t (suc n) [] = record { text = []; rest = [] }
-shown t (suc n) (h ∷ w) = cond (ltb (h / payload) 7) (record { text = leafIn t h; rest = w }) (formIn t (shown t n) h w)
-
 -- the n lines that w begins with
 unfoldable pub linesIn : List ℕ → ℕ → List ℕ → Bytes
 linesIn t zero w = []
 linesIn t (suc n) w = let a = shown t 33 w in a .text ++ ((10 ∷ []) ++ linesIn t n (a .rest))
-
-unfoldable pub Shown·all : Unit {0}
-unfolding nameIn keyword first second placesIn paramsIn after arity headIn leafIn operandsIn formIn shown
-Shown·all = tt

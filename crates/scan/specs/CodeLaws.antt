@@ -3,7 +3,7 @@
 use mathlib.Core.Path.{_≡_, refl, sym, ap, ap₂, _∙_}
 use mathlib.Core.Bool.{Bool, true, false, false≢true, _&&_, _||_}
 use mathlib.Core.List.{List, [], _∷_, _++_}
-use Prim.Native.Nat.{ℕ, zero, suc, _+_, _-_, _*_, _/_, _%_, _^_, _≤_, _<_}
+use Prim.Native.Nat.{ℕ, zero, suc, _+_, _-_, _*_, _^_, _≤_, _<_}
 use native.Mathlib.Nat.{add-zero, pow-suc, pow-le-pow-right, pow-zero, sub-self, lt-of-lt-of-le, pow-succ', mul-assoc}
 use native.Mathlib.Numerals.{add-one}
 use native.Mathlib.Omega.{arith}
@@ -21,7 +21,7 @@ use Rattle.layout.specs.Layout.{bytesNumber}
 use Rattle.reading.specs.Items.{word-parts}
 use Rattle.scan.specs.Runs.{Run, index}
 use Rattle.scan.specs.Keywords.{slice-drop, same-not, run-all}
-use Rattle.scan.specs.Codes.{lowPart, highPart, Numbered, Holds, Placed, Sought}
+use Rattle.scan.specs.Codes.{lowPart, highPart, Numbered, Placed, Sought}
 
 module _ (t : Bytes) (at e : ℕ) where
   pub numbered-none : at ≤ e → Numbered t at e e 0

@@ -2,20 +2,20 @@
 -- length. The code compares with those of a run's own length only. Assumes nothing.
 use mathlib.Core.Path.{_≡_, refl, sym, ap, _∙_}
 use mathlib.Core.Bool.{Bool, true, false, _&&_, _||_, not}
-use mathlib.Core.Option.{none, some}
+use mathlib.Core.Option.{some}
 use mathlib.Core.List.{List, [], _∷_, _++_}
 use Prim.Native.Nat.{ℕ, zero, suc, _+_, _-_, _≤_, _<_}
 use native.Mathlib.Nat.{sub-zero, zero-sub, suc-sub-suc}
 use native.Mathlib.Omega.{arith}
 use borrow.Author.Needs.{needs}
-use borrow.Author.Tests.{lt-leb, le-leb, eq-eqb, ne-eqb, eqb-true, eqb-false}
-use lib.Dec.{eqb, leb}
+use borrow.Author.Tests.{lt-leb, le-leb, eq-eqb, eqb-true, eqb-false}
+use lib.Dec.{eqb}
 use lib.ListN.{length, getD, take, drop, take-append-drop}
 use lib.Seq.{slice, slice-cons, slice-empty, length-slice, take-append-seam, take-nil}
 use Rattle.atlite.specs.Base.{Base, bytes, sameBytes, all, if_then_else_}
 use Rattle.atlite.specs.Lexicon.{Bytes, isLetter, inWord, letterFirst, among, reserved, isWord}
 use Rattle.atlite.specs.Reader.{item, after}
-use Rattle.atlite.specs.Facts.{same-true, same-refl, none-some, both₂}
+use Rattle.atlite.specs.Facts.{same-true, same-refl, none-some}
 use Rattle.reading.specs.Items.{after-whole}
 use Rattle.scan.specs.Runs.{Run, Starts, index}
 

@@ -1,10 +1,10 @@
 -- The tests of bytes, the end of a run and the comparison with given bytes answer as they should: one law for each way to
 -- return, and for each turn of a loop. Assumes nothing.
 use mathlib.Core.Path.{_≡_, refl, sym, ap, _∙_}
-use mathlib.Core.Bool.{Bool, true, false, false≢true}
-use mathlib.Core.Option.{none, some}
-use mathlib.Core.List.{List, [], _∷_, _++_, append-assoc, append-nil}
-use Prim.Native.Nat.{ℕ, zero, suc, _+_, _-_, _≤_, _<_}
+use mathlib.Core.Bool.{Bool, true, false}
+use mathlib.Core.Option.{none}
+use mathlib.Core.List.{[], _∷_, _++_, append-assoc, append-nil}
+use Prim.Native.Nat.{ℕ, _+_, _-_, _≤_, _<_}
 use native.Mathlib.Nat.{add-zero}
 use native.Mathlib.Numerals.{add-one}
 use native.Mathlib.Omega.{arith}
@@ -13,7 +13,7 @@ use borrow.Author.Tests.{lt-leb, le-leb, eq-eqb, ne-eqb}
 use lib.Dec.{eqb, leb}
 use lib.ListN.{length, getD, take, drop, length-drop, drop-of-length-le}
 use lib.Seq.{slice, slice-empty, length-take-le, take-suc, drop-cons, drop-append-le}
-use Rattle.atlite.specs.Base.{Base, if_then_else_}
+use Rattle.atlite.specs.Base.{if_then_else_}
 use Rattle.atlite.specs.Lexicon.{Bytes, isLetter, isDigit, inWord}
 use Rattle.atlite.specs.Reader.{item, after}
 use Rattle.reading.specs.Items.{item-in, item-out}

@@ -4,7 +4,6 @@
 -- move; what two lists have to agree in is read off those; and what they then end in is said of the words that are left and of the
 -- call `list`. `two-lists` of module `TwoLists` proves it.
 use Prim.Native.Nat.{ℕ, suc}
-use mathlib.Core.Bool.{Bool, true, false}
 use mathlib.Core.List.{List, [], _∷_, _++_}
 use mathlib.Core.Path.{_≡_}
 use lib.ListN.{length, take, drop}
@@ -15,7 +14,7 @@ use Rattle.atlite.specs.Move as M
 use Rattle.atlite.specs.Move.{Answer, Inner, Taken, Sent, Created, Moved}
 use Rattle.atlite.specs.Run as R
 use Rattle.layout.specs.Layout.{stateWords}
-use Rattle.layout.specs.Meaning.{Reply, lent, moveCall, runCall, listCall}
+use Rattle.layout.specs.Meaning.{lent, moveCall, runCall, listCall}
 
 -- ---- calls
 -- A move call names an actor, by any number; a run call has one byte an entry, any bytes.

@@ -1,13 +1,11 @@
 -- The premise of `two-lists` is met by lists that differ: from one loaded script, two lists of calls with the same moves, senders and
 -- creators in which all four actors move, one of them with entries that are refused. Assumes nothing.
 use Prim.Native.Nat.{ℕ, zero, suc, _<_}
-use mathlib.Core.Bool.{Bool, true, false}
 use mathlib.Core.List.{List, [], _∷_}
 use mathlib.Core.Path.{_≡_, refl, sym, _∙_, subst₂}
 use native.Mathlib.Omega.{arith}
 use borrow.Author.Tests.{ne-eqb}
 use lib.ListN.{replicate}
-use lib.Dec.{eqb}
 use Rattle.atlite.specs.Base.{if_then_else_, bytes}
 use Rattle.atlite.specs.Loops.{All}
 use Rattle.atlite.specs.Valid.{Valid}
@@ -22,7 +20,7 @@ use Rattle.layout.specs.TermReading.{TermReading}
 use Rattle.layout.specs.Decode.{Decode}
 use Rattle.layout.specs.TableReading.{TableReading}
 use Rattle.layout.specs.Meaning.{Meaning, readCall, loadCall}
-use Rattle.schedule.specs.Claim.{Claim, Call, move, run, Event, event, movedBy, Agree, movesOf, senders, creators}
+use Rattle.schedule.specs.Claim.{Claim, Call, move, run, Event, event, movedBy, Agree, movesOf, senders}
 
 unfoldable Everything : Unit {0}
 unfolding All Valid ValidTest Pack Terms·all Layout Tables Reading TermReading Decode TableReading Meaning Claim

@@ -6,7 +6,7 @@ use mathlib.Core.Path.{_≡_, refl, sym, ap, _∙_, subst₂}
 use mathlib.Core.List.{List, [], _∷_, _++_}
 use native.Mathlib.Omega.{arith}
 use native.Mathlib.Decide.{decLe}
-use lib.ListN.{length, take, drop, length-append, length-take, length-drop}
+use lib.ListN.{length, take, drop, length-append, length-take}
 use lib.Seq.{take-at, drop-at}
 use Rattle.atlite.specs.Base.{Result, done, refused, _>>=_, _>>_, orRefuse, require}
 use Rattle.atlite.specs.State.{State}
@@ -21,7 +21,7 @@ use Rattle.layout.specs.Decode.{stateOf}
 use Rattle.invariant.specs.Moves.{run-keeps}
 use Rattle.layout.specs.Pack.{flat}
 use Rattle.layout.specs.Layout.{stateWords, encode}
-use Rattle.layout.specs.Meaning.{Reply, answered, room, stateIn, lent, moveCall, runCall, listCall}
+use Rattle.layout.specs.Meaning.{answered, room, stateIn, lent, moveCall, listCall}
 use Rattle.layout.specs.Laws.{state-length}
 use Rattle.layout.specs.Outcomes.{room-enough}
 use Rattle.layout.specs.MeaningLaws.{lent-state, state-lent, lent-short, move-unlent, run-unlent, move-leaves, move-stays, run-leaves}

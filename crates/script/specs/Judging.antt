@@ -1,18 +1,18 @@
 -- The reader after the grammar: what is known of a text when its causes 3, 4 and 5 are looked for, and what each finding then means.
 -- Assumes nothing.
 use Prim.Native.Nat.{ℕ, _+_, _≤_, _<_}
-use mathlib.Core.Path.{_≡_, refl, sym, ap, _∙_, subst as transp}
+use mathlib.Core.Path.{_≡_, sym, ap, _∙_}
 use mathlib.Core.Bool.{Bool, true, false, false≢true}
-use mathlib.Core.List.{List, [], _∷_, _++_}
+use mathlib.Core.List.{List, [], _∷_}
 use native.Mathlib.Omega.{arith}
 use borrow.Author.Needs.{needs}
 use lib.ListN.{length, length-append}
-use Rattle.atlite.specs.Base.{done, _>>=_, refused, if_then_else_}
-use Rattle.atlite.specs.Lexicon.{Bytes, wordsOf, dictionary}
+use Rattle.atlite.specs.Base.{done, _>>=_, if_then_else_}
+use Rattle.atlite.specs.Lexicon.{dictionary}
 use Rattle.atlite.specs.Script.{Src, Line, expression, define, size, join}
 use Rattle.atlite.specs.Scope.{bound, single}
 use Rattle.atlite.specs.Reader.{depth, readScript}
-use Rattle.atlite.specs.Table.{GrammaticalLines, IsTable}
+use Rattle.atlite.specs.Table.{GrammaticalLines}
 use Rattle.atlite.specs.declared.Tabled.the-variants.{Done, Refused}
 use Rattle.reading.specs.Exact.{script-exact}
 use Rattle.layout.specs.Pack.{flat}

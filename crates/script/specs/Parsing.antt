@@ -1,6 +1,6 @@
 -- What the parser's answer means for the reader: a script whose lines stand in the scratch words, or cause 2. Assumes nothing.
-use Prim.Native.Nat.{ℕ, _≤_, _<_}
-use mathlib.Core.Path.{_≡_, sym, subst as transp}
+use Prim.Native.Nat.{ℕ, _≤_}
+use mathlib.Core.Path.{_≡_, subst as transp}
 use mathlib.Core.Bool.{Bool}
 use mathlib.Core.List.{List}
 use native.Mathlib.Omega.{arith}
@@ -8,7 +8,6 @@ use borrow.Author.Needs.{needs}
 use lib.ListN.{length}
 use Rattle.atlite.specs.Lexicon.{dictionary}
 use Rattle.atlite.specs.declared.Tabled.the-variants.{Refused}
-use Rattle.words.specs.Wide.{wideLines}
 use Rattle.scan.specs.Codes.{Holds, Dictionary}
 use Rattle.parse.specs.declared.Parsed.{Parsed}
 use Rattle.parse.specs.declared.Parsed.the-variants.{Done, Bad}

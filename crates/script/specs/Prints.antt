@@ -1,18 +1,17 @@
 -- What the call `print` promises, and what each of its ways to return has to show. Words are a table exactly if the text made of them
 -- is read as a table with these words. Assumes nothing.
 use Prim.Native.Nat.{ℕ, _≤_, _<_}
-use mathlib.Core.Path.{_≡_, refl, sym, ap, _∙_, subst as transp}
+use mathlib.Core.Path.{_≡_, refl, sym, ap, _∙_}
 use mathlib.Core.Bool.{Bool, true, false, false≢true}
-use mathlib.Core.List.{List, _++_, append-nil}
+use mathlib.Core.List.{List, _++_}
 use mathlib.Core.Option.{Option, none, some}
 use native.Mathlib.Omega.{arith}
 use borrow.Author.Needs.{needs}
 use lib.ListN.{length, take, drop}
 use lib.Seq.{take-all, length-take-le}
-use Rattle.atlite.specs.Base.{done, refused, orRefuse}
-use Rattle.atlite.specs.Table.{Table, IsTable, textOf, read}
-use Rattle.atlite.specs.Facts.{refused-done}
-use Rattle.atlite.specs.Answers.{printAnswer, readAnswer}
+use Rattle.atlite.specs.Base.{orRefuse}
+use Rattle.atlite.specs.Table.{Table, IsTable, textOf}
+use Rattle.atlite.specs.Answers.{printAnswer}
 use Rattle.atlite.specs.declared.Printed.{Printed}
 use Rattle.atlite.specs.declared.Printed.the-variants.{Bytes, Refused}
 use Rattle.layout.specs.Tables.{tableWords, encodeTable}
@@ -20,7 +19,7 @@ use Rattle.layout.specs.TableReading.{tableOf}
 use Rattle.layout.specs.TableLaws.{table-of-iff}
 use Rattle.layout.specs.Meaning.{answered, tableIn, printCall}
 use Rattle.layout.specs.Outcomes.{room-enough, room-short}
-use Rattle.words.specs.Runs.{Same, Copied}
+use Rattle.words.specs.Runs.{Copied}
 
 -- The answer is r and the text is new: what `printCall` says of the words t and the bytes old.
 unfoldable pub Prints : List ℕ → List ℕ → Printed → List ℕ → Type 0

@@ -1,13 +1,13 @@
 -- What the call `read` promises, and what each of its ways to return has to show: one law for each cause, in the order in which the code
 -- looks for them. Assumes nothing.
 use Prim.Native.Nat.{ℕ, _+_, _≤_, _<_}
-use mathlib.Core.Path.{_≡_, refl, sym, ap, _∙_}
+use mathlib.Core.Path.{_≡_, refl, sym, _∙_}
 use mathlib.Core.Bool.{Bool, true, false, _&&_}
-use mathlib.Core.List.{List, [], _∷_, _++_}
+use mathlib.Core.List.{List, [], _++_}
 use native.Mathlib.Omega.{arith}
-use borrow.Author.Tests.{lt-ltb, le-ltb, le-leb, lt-leb}
+use borrow.Author.Tests.{lt-ltb, le-leb, lt-leb}
 use lib.ListN.{length, drop}
-use lib.Dec.{leb, ltb}
+use lib.Dec.{leb}
 use Rattle.atlite.specs.Base.{Result, done, refused, _>>=_, _>>_, require}
 use Rattle.atlite.specs.Lexicon.{Bytes, wordsOf, dictionary}
 use Rattle.atlite.specs.Script.{Src, Line, size, join}

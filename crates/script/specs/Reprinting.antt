@@ -1,14 +1,14 @@
 -- The text made of words, read back: it tells whether the words are a table. Assumes nothing.
 use Prim.Native.Nat.{ℕ, _≤_}
-use mathlib.Core.Path.{_≡_, refl, sym, ap, _∙_, subst as transp}
+use mathlib.Core.Path.{_≡_, sym, ap, _∙_, subst as transp}
 use mathlib.Core.Bool.{Bool, true, false, false≢true}
 use mathlib.Core.List.{List, _++_}
 use native.Mathlib.Omega.{arith}
 use borrow.Author.Needs.{needs}
 use lib.ListN.{length, take, drop}
 use lib.Seq.{take-at}
-use Rattle.atlite.specs.Base.{done, refused}
-use Rattle.atlite.specs.Table.{Table, IsTable, textOf}
+use Rattle.atlite.specs.Base.{done}
+use Rattle.atlite.specs.Table.{Table, textOf}
 use Rattle.atlite.specs.Facts.{refused-done}
 use Rattle.atlite.specs.Answers.{readAnswer}
 use Rattle.atlite.specs.declared.Tabled.{Tabled}

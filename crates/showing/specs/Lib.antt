@@ -6,3 +6,8 @@ pub mod Codes
 pub mod PutLaws
 pub mod HeadLaws
 pub mod ShowLaws
+-- what the words of a term or an expression show
+pub mod Spelling
+pub mod Says
+pub mod Words
+pub mod Forms

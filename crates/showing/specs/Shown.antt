@@ -1,7 +1,7 @@
--- The text that words stand for, whatever words they are: what the lister's code is proved against. A word has an opening, a
+-- The text that words stand for, whatever words they are: what the code is proved against. A word has an opening, a
 -- number of operands and a closing bracket; each operand stands behind a space, and a name may stand behind the first. So one
 -- rule shows every form, and only `keyword`, `first`, `second`, `after` and `arity` know the kinds. A message is shown as a form
--- of kind 18, which no term has. Assumes nothing.
+-- of kind 18, which no term has; the kinds from 64 on are those of a table. Assumes nothing.
 use Prim.Native.Nat.{ℕ, zero, suc, _+_, _-_, _*_, _/_, _%_}
 use mathlib.Core.Bool.{cond}
 use mathlib.Core.List.{List, [], _∷_, _++_}
@@ -24,16 +24,16 @@ letterIn b = cond (eqb b 0) [] (b ∷ [])
 unfoldable pub lettersIn : ℕ → Bytes
 lettersIn v = letterIn (v % 256) ++ (letterIn (v / 256 % 256) ++ (letterIn (v / 65536 % 256) ++ letterIn (v / 16777216)))
 
--- the words that every state knows
+-- the words that no dictionary has
 unfoldable pub knownIn : ℕ → Bytes
 knownIn x =
     cond (eqb x 0) (bytes "this") (cond (eqb x 1) (bytes ".t") (cond (eqb x 2) (bytes ".f") (cond (eqb x 3) (bytes ".r")
     (cond (eqb x 4) (bytes ".l") (cond (eqb x 5) (bytes ".s") (cond (eqb x 6) (bytes ".x") (bytes "apply")))))))
 
--- the word of number x in the dictionary of the words t; past its end there is none
+-- the word of number x in the dictionary of the words t, which has at most 64 and zeros behind them
 unfoldable pub wordIn : List ℕ → ℕ → Bytes
 wordIn t x =
-    cond (ltb x 8) (knownIn x) (cond (ltb (x - 8) (getD t 1 0))
+    cond (ltb x 8) (knownIn x) (cond (ltb x 72)
     (lettersIn (getD t (3 * x - 22) 0) ++ (lettersIn (getD t (3 * x - 21) 0) ++ lettersIn (getD t (3 * x - 20) 0))) [])
 
 -- a name with its tag: plain, two-way, `.resolve`, `.register`
@@ -55,12 +55,14 @@ keyword k =
     cond (eqb k 7) (bytes "plus") (cond (eqb k 8) (bytes "percent") (cond (eqb k 9) (bytes "get") (cond (eqb k 10) (bytes "set")
     (cond (eqb k 11) (bytes "let") (cond (eqb k 12) (bytes "future") (cond (eqb k 13) (bytes "call") (cond (eqb k 14) (bytes "send")
     (cond (eqb k 15) (bytes "object") (cond (eqb k 16) (bytes "isolate") (cond (eqb k 17) (bytes "actor") (cond (eqb k 18) (bytes "message")
-    (cond (eqb k 128) (bytes "field") (bytes "method")))))))))))))
+    (cond (eqb k 64) (bytes "ask") (cond (eqb k 65) (bytes "fn") (cond (eqb k 66) (bytes "resolve") (cond (eqb k 67) (bytes "when")
+    (cond (eqb k 68) (bytes "seq") (cond (eqb k 128) (bytes "field") (cond (eqb k 130) (bytes "def") (bytes "method")))))))))))))))))))
 
 -- the name behind the operator
 unfoldable pub first : ℕ → ℕ
 first h =
-    cond (ltb (h / payload) 11) noName (cond (ltb (h / payload) 13) (h % 128) (cond (ltb (h / payload) 128) noName (h % 128)))
+    cond (ltb (h / payload) 11) noName (cond (ltb (h / payload) 13) (h % 128)
+    (cond (eqb (h / payload) 65) (h % 128) (cond (ltb (h / payload) 128) noName (h % 128))))
 
 -- the name behind that one
 unfoldable pub second : ℕ → ℕ
@@ -81,13 +83,15 @@ paramsIn t h = cond (ltb (h / payload) 192) [] (placesIn t (h / 512 % 128) (h / 
 unfoldable pub after : ℕ → ℕ
 after h =
     cond (ltb (h / payload) 9) noName (cond (ltb (h / payload) 11) (h % 128) (cond (ltb (h / payload) 13) noName
-    (cond (ltb (h / payload) 15) (h % 512) (cond (eqb (h / payload) 18) (h % 512) noName))))
+    (cond (ltb (h / payload) 15) (h % 512) (cond (eqb (h / payload) 18) (h % 512) (cond (eqb (h / payload) 64) (h % 512)
+    (cond (eqb (h / payload) 67) (h % 128) noName))))))
 
 unfoldable pub arity : ℕ → ℕ
 arity h =
     cond (ltb (h / payload) 9) 2 (cond (eqb (h / payload) 9) 1 (cond (ltb (h / payload) 12) 2 (cond (eqb (h / payload) 12) 1
     (cond (ltb (h / payload) 15) (1 + h / 512 % 8) (cond (ltb (h / payload) 18) (h % 8 + h / 8 % 8)
-    (cond (eqb (h / payload) 18) (1 + h / 512 % 8) 1))))))
+    (cond (eqb (h / payload) 18) (1 + h / 512 % 8) (cond (eqb (h / payload) 64) (1 + h / 512 % 8)
+    (cond (ltb (h / payload) 66) 1 (cond (ltb (h / payload) 69) 2 1)))))))))
 
 -- what stands before the operands
 unfoldable pub operatorIn : ℕ → Bytes

@@ -9,7 +9,7 @@ use borrow.Author.Needs.{needs}
 use borrow.Author.Tests.{lt-ltb, le-ltb, ne-eqb, ltb-true, ltb-false, eqb-true, eqb-false}
 use lib.Dec.{eqb, ltb}
 use lib.ListN.{length, getD, set, replicate, length-set, getD-replicate, List·getD-eq-default}
-use lib.Seq.{getD-set-same, getD-set-other, set-set, set-getD}
+use lib.Seq.{getD-set-same, getD-set-other}
 use Rattle.atlite.specs.Base.{if_then_else_, member}
 use Rattle.atlite.specs.Term.{Kind, seen}
 use Rattle.atlite.specs.ValidTest.{held}
@@ -17,7 +17,7 @@ use Rattle.atlite.specs.Facts.{eqb-same}
 use Rattle.layout.specs.Terms.{kindNumber}
 use Rattle.layout.specs.Parse.{given, placeForms, placesIn, paramsAt, named, methodAt}
 use Rattle.layout.specs.ParseWords.{along-getD, Holding, under}
-use Rattle.checks.specs.Bound.{Swapped, swapped, Kept, kept}
+use Rattle.checks.specs.Bound.{Swapped, swapped, Kept, kept, put-back}
 use Rattle.wellformed.specs.Words.{holds}
 use Rattle.wellformed.specs.Ends.{Scope, Sees, bound, Bound, Unbound, Opens, Refers}
 
@@ -158,9 +158,6 @@ all-bound F g n G H I x y z p q r =
 
 pub all-unbound : (F : List ℕ) (n : ℕ) (G H I : List ℕ) (x y z a b c : ℕ) → Swapped F (n % 128) x G a → Swapped G (n / 128 % 128) y H b → Swapped H (n / 16384 % 128) z I c → Unbound F n I x y z
 all-unbound F n G H I x y z a b c p q r = record { new = r .new ∙ rw (q .new, p .new) }
-
-put-back : (F : List ℕ) (i v : ℕ) → set (set F i v) i (getD F i 0) ≡ F
-put-back F i v = set-set F i v (getD F i 0) ∙ set-getD F i 0
 
 pub inside-kept : (F : List ℕ) (g n : ℕ) (G H I : List ℕ) (x y z : ℕ) → Bound F g n G x y z → Kept G H → Unbound H n I x y z → Kept F I
 unfolding bound Kept

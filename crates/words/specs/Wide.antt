@@ -4,10 +4,9 @@
 -- the same. So it first puts a script into words that are wide enough for any such text, checks those, and narrows them to the words
 -- of a table in the end. A wide word is its kind, the same number as in a table, and a payload of names of 12 bits; a method's header
 -- has kind 192. This is no part of what a caller has to believe: a table is `encodeTable` of crate `layout`.
-use Prim.Native.Nat.{ℕ, suc, _+_, _*_}
+use Prim.Native.Nat.{ℕ, _+_, _*_}
 use mathlib.Core.List.{List, [], _∷_, _++_}
 use lib.ListN.{length}
-use Rattle.atlite.specs.Term.{Kind}
 use Rattle.atlite.specs.Script.{Src, num, null, var, plus, percent, get, set, call, send, ask, letIn, future, fn, resolve, when, seq, literal, Srcs, nil, cons, SrcFields, noField, field, SrcMethods, noMethod, method, Line, expression, define}
 use Rattle.atlite.specs.Table.{countSrcs, countFields, countMethods}
 use Rattle.layout.specs.Pack.{flat}

@@ -49,8 +49,11 @@ impl Names<'_> {
     }
 
     fn word(&self, word: Word) -> usize {
-        let text = &self.words[usize::from(word.0)];
-        self.known().iter().position(|known| *known == text).map_or(APPLY as usize, |at| 8 + at)
+        let (before, rest) = self.words.split_at(usize::from(word.0));
+        if rest[0] == "apply" {
+            return APPLY as usize;
+        }
+        8 + before.iter().filter(|word| *word != "apply").count()
     }
 
     fn var(&self, var: Var) -> usize {

@@ -39,6 +39,18 @@ put-keyword-spec =
     (λ c κs. search needs)  -- put-bytes-requires-13
     (λ c. search needs)  -- slice-aggregate-put-bytes-14
     (λ c κs. search needs)  -- put-bytes-requires-14
+    (λ c. search needs)  -- slice-aggregate-put-bytes-15
+    (λ c κs. search needs)  -- put-bytes-requires-15
+    (λ c. search needs)  -- slice-aggregate-put-bytes-16
+    (λ c κs. search needs)  -- put-bytes-requires-16
+    (λ c. search needs)  -- slice-aggregate-put-bytes-17
+    (λ c κs. search needs)  -- put-bytes-requires-17
+    (λ c. search needs)  -- slice-aggregate-put-bytes-18
+    (λ c κs. search needs)  -- put-bytes-requires-18
+    (λ c. search needs)  -- slice-aggregate-put-bytes-19
+    (λ c κs. search needs)  -- put-bytes-requires-19
+    (λ c. search needs)  -- slice-aggregate-put-bytes-20
+    (λ c κs. search needs)  -- put-bytes-requires-20
     (λ c. search needs)  -- same-length
     (λ c. search keys)  -- returns
     (λ c. search needs)  -- same-length-2
@@ -67,4 +79,16 @@ put-keyword-spec =
     (λ c. search keys)  -- returns-13
     (λ c. search needs)  -- same-length-14
     (λ c. search keys)  -- returns-14
+    (λ c. search needs)  -- same-length-15
+    (λ c. search keys)  -- returns-15
+    (λ c. search needs)  -- same-length-16
+    (λ c. search keys)  -- returns-16
+    (λ c. search needs)  -- same-length-17
+    (λ c. search keys)  -- returns-17
+    (λ c. search needs)  -- same-length-18
+    (λ c. search keys)  -- returns-18
+    (λ c. search needs)  -- same-length-19
+    (λ c. search keys)  -- returns-19
+    (λ c. search needs)  -- same-length-20
+    (λ c. search keys)  -- returns-20
     )

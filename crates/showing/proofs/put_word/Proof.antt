@@ -11,8 +11,6 @@ put-word-spec =
     (λ c κs. search needs)  -- put-known-requires
     (λ c. search needs)  -- same-length
     (λ c. search laws)  -- returns
-    (λ c. search needs)  -- shared-slice-read-if2
-    (λ c. search needs)  -- cast-if2
     (λ c. search laws)  -- returns-2
     (λ c. search needs)  -- mul-put-letters
     (λ c. search needs)  -- sub-put-letters

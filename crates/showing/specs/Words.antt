@@ -1,0 +1,144 @@
+-- What one word shows: a name, a name with its tag, a value, the parameters of a method. t is a state or a table that spells the
+-- words of ws. Assumes nothing.
+use mathlib.Core.Path.{_≡_, refl, sym, ap, ap₂, _∙_}
+use mathlib.Core.List.{List, [], _∷_, _++_, append-assoc, append-nil, map}
+use Prim.Native.Nat.{ℕ, zero, suc, _+_, _-_, _*_, _/_, _%_, _≤_, _<_}
+use native.Mathlib.Omega.{arith}
+use borrow.Author.Tests.{lt-ltb, le-ltb, ne-eqb}
+use lib.ListN.{length}
+use Rattle.atlite.specs.Base.{bytes}
+use Rattle.atlite.specs.Lexicon.{Bytes}
+use Rattle.atlite.specs.Printer.{form, printItems, printWord, printNumber, printKind}
+use Rattle.atlite.specs.Listing.{printSeries, printValue, printName}
+use Rattle.atlite.specs.Term.{made, copied, Value, null, num, ref, Name, plain, twoWay, resolve, register, Kind}
+use Rattle.reading.specs.Items.{behind, form-closing}
+use Rattle.layout.specs.Pack.{node, places}
+use Rattle.layout.specs.PackLaws.{NameFits, Each}
+use Rattle.layout.specs.Terms.{seriesBit, encodeValue, tagged, asked, kindNumber, methodHeader}
+use Rattle.layout.specs.TermLaws.{ValueFits, NameOk}
+use Rattle.layout.specs.TermReads.{asked-small}
+use Rattle.showing.specs.Shown.{payload, noName, wordIn, taggedIn, nameIn, openIn, placesIn, seriesIn, ownerIn, refIn, leafIn, shown}
+use Rattle.showing.specs.Spelling.{Spells, spelt, unspelt}
+use Rattle.showing.specs.Says.{Says, showing, says-object, says-isolate, says-actor, says-method}
+
+-- ---- names and tags
+pub tag-small : (m : Name) → NameOk m → tagged m < 512
+unfolding tagged
+tag-small (plain m) h = omega arith
+tag-small (twoWay m) h = omega arith
+tag-small resolve h = omega arith
+tag-small register h = omega arith
+
+-- a word with a name and n arguments
+module _ (k : ℕ) (m : Name) (n : ℕ) (h : NameOk m) (l : n < 8) where
+  pub asked-kind : node k (asked m n) / payload ≡ k
+  asked-kind = omega (arith, asked-small m n h l)
+
+  pub asked-tag : node k (asked m n) % 512 ≡ tagged m
+  asked-tag = omega (arith, tag-small m h)
+
+  pub asked-number : node k (asked m n) / 512 % 8 ≡ n
+  asked-number = omega (arith, tag-small m h)
+
+module _ (t : List ℕ) (ws : List Bytes) (sp : Spells t ws) where
+  pub name-shown : (x : ℕ) → NameFits x → nameIn t x ≡ 32 ∷ printWord ws x
+  unfolding nameIn taggedIn
+  name-shown x g = rw (ne-eqb x noName (λ e. omega arith), lt-ltb x 128 (omega arith), spelt t ws sp x)
+
+  pub tag-shown : (m : Name) → NameOk m → nameIn t (tagged m) ≡ 32 ∷ printName ws m
+  unfolding nameIn taggedIn tagged printName bytes
+  tag-shown (plain m) g =
+      let z : m + 128 * 0 ≡ m = omega arith in
+      rw (z, ne-eqb m noName (λ e. omega arith), lt-ltb m 128 (omega arith), spelt t ws sp m)
+  tag-shown (twoWay m) g =
+      let z : (m + 128 * 1) - 128 ≡ m = omega arith in
+      rw (ne-eqb (m + 128 * 1) noName (λ e. omega arith), le-ltb (m + 128 * 1) 128 (omega arith), lt-ltb (m + 128 * 1) 256 (omega arith), z, spelt t ws sp m)
+  tag-shown resolve g = refl
+  tag-shown register g = refl
+
+  -- ---- values
+  ref-text : (a s n : ℕ) (u : Bytes) → seriesIn s ≡ 32 ∷ (u ++ (32 ∷ [])) → ownerIn a ++ (seriesIn s ++ (printNumber n ++ (41 ∷ [])))
+      ≡ form (bytes "ref" ∷ printNumber a ∷ u ∷ printNumber n ∷ [])
+  unfolding ownerIn bytes
+  ref-text a s n u e =
+      ap {B = Bytes} (λ v. ownerIn a ++ (v ++ (printNumber n ++ (41 ∷ [])))) e
+      ∙ ap {B = Bytes} (λ v. ownerIn a ++ (32 ∷ v)) (append-assoc u (32 ∷ []) _)
+      ∙ sym (form-closing (bytes "ref") (printNumber a ∷ u ∷ printNumber n ∷ []) [])
+      ∙ append-nil (form (bytes "ref" ∷ printNumber a ∷ u ∷ printNumber n ∷ []))
+
+  module _ (h a s n : ℕ) (e : h / 131072 % 128 ≡ a) (f : h / 65536 % 2 ≡ s) (g : h % 65536 ≡ n) (k : h / payload ≡ 3) where
+    ref-shown : (u : Bytes) → seriesIn s ≡ 32 ∷ (u ++ (32 ∷ [])) → leafIn t h ≡ form (bytes "ref" ∷ printNumber a ∷ u ∷ printNumber n ∷ [])
+    unfolding leafIn refIn
+    ref-shown u d = rw (k, e, f, g) (ref-text a s n u d)
+
+  pub leaf-shown : (v : Value) → ValueFits v → leafIn t (encodeValue v) ≡ printValue v
+  unfolding leafIn encodeValue printValue printSeries seriesIn seriesBit bytes
+  leaf-shown null h = refl
+  leaf-shown (num n) h =
+      let z : (n + 16777216 * 2) / payload ≡ 2 = omega arith in
+      let y : (n + 16777216 * 2) % payload ≡ n = omega arith in
+      rw (z, y)
+  leaf-shown (ref a made n) h = let i = h .0 in let j = h .1 in
+      ref-shown (encodeValue (ref a made n)) a 0 n (omega arith) (omega arith) (omega arith) (omega arith) (bytes "m") refl
+  leaf-shown (ref a copied n) h = let i = h .0 in let j = h .1 in
+      ref-shown (encodeValue (ref a copied n)) a 1 n (omega arith) (omega arith) (omega arith) (omega arith) (bytes "c") refl
+
+  pub value-kind : (v : Value) → ValueFits v → encodeValue v / payload < 7
+  unfolding encodeValue seriesBit
+  value-kind null h = omega arith
+  value-kind (num n) h = omega arith
+  value-kind (ref a made n) h = let i = h .0 in let j = h .1 in omega arith
+  value-kind (ref a copied n) h = let i = h .0 in let j = h .1 in omega arith
+
+  pub leaf : (n h : ℕ) (r : List ℕ) (s : Bytes) → 0 < n → h / payload < 7 → leafIn t h ≡ s → shown t n (h ∷ r) ≡ showing s r
+  unfolding shown
+  leaf zero h r s d k e = absurd (omega arith)
+  leaf (suc n) h r s d k e = rw (lt-ltb (h / payload) 7 k, e)
+
+  pub value-shown : (v : Value) (n : ℕ) (r : List ℕ) → ValueFits v → shown t (suc n) (encodeValue v ∷ r) ≡ showing (printValue v) r
+  value-shown v n r h = leaf (suc n) (encodeValue v) r (printValue v) (omega arith) (value-kind v h) (leaf-shown v h)
+
+  -- ---- literals and methods
+  pub literal-says : (k : Kind) (a b : ℕ) → a < 8 → b < 8 → Says t (node (kindNumber k) (a + 8 * b)) (printKind k) [] noName (a + b)
+  unfolding kindNumber printKind
+  literal-says Kind.object a b f g = says-object t _ a b (omega arith) (omega arith) (omega arith)
+  literal-says Kind.isolate a b f g = says-isolate t _ a b (omega arith) (omega arith) (omega arith)
+  literal-says Kind.actor a b f g = says-actor t _ a b (omega arith) (omega arith) (omega arith)
+
+  params-text : (x : ℕ) (v : Bytes) (items : List Bytes) (y z : Bytes) → wordIn t x ≡ v → y ++ (z ++ (41 ∷ [])) ≡ behind items (41 ∷ [])
+      → openIn t x ++ (y ++ (z ++ (41 ∷ []))) ≡ 32 ∷ form (v ∷ items)
+  unfolding openIn
+  params-text x v items y z e f =
+      rw (e, f) (ap {B = Bytes} (λ u. 32 ∷ u) (sym (form-closing v items []) ∙ append-nil (form (v ∷ items))))
+
+  -- the word before its places: name m, count n, places p
+  module _ (m n p : ℕ) (f : m < 127) (g : n ≤ 3) where
+    method-says : (x y z : ℕ) (u : Bytes) → p < 2097152 → p % 128 ≡ x → p / 128 % 128 ≡ y → p / 16384 % 128 ≡ z → placesIn t x y z ≡ 32 ∷ u
+        → Says t (m + 128 * (n + 4 * (p + 2097152 * 3))) (bytes "method") (printWord ws m ∷ u ∷ []) noName 1
+    method-says x y z u l a b c e =
+        let h = m + 128 * (n + 4 * (p + 2097152 * 3)) in
+        let q : h / 512 ≡ p + 6291456 = omega arith in
+        says-method t h m x y z (omega arith) (omega arith) (omega arith) (omega arith) (omega arith) (printWord ws m) u (name-shown m f) e
+
+  pub header-says : (m : ℕ) (xs : List ℕ) → NameFits m → Each NameFits xs → length xs ≤ 3
+      → Says t (methodHeader m xs) (bytes "method") (printWord ws m ∷ form (map (printWord ws) xs) ∷ []) noName 1
+  unfolding methodHeader places placesIn openIn nameIn form printItems
+  header-says m [] f g l =
+      method-says m 0 (127 + 128 * (127 + 128 * 127)) f (omega arith) 127 127 127 (form []) (omega arith) (omega arith) (omega arith) (omega arith)
+      (rw (unspelt t ws sp))
+  header-says m (x ∷ []) f g l =
+      let a = g .0 in
+      method-says m 1 (x + 128 * (127 + 128 * 127)) f (omega arith) x 127 127 _ (omega arith) (omega arith) (omega arith) (omega arith)
+      (params-text x (printWord ws x) [] [] [] (spelt t ws sp x) refl)
+  header-says m (x ∷ y ∷ []) f g l =
+      let a = g .0 in
+      let b = g .1 .0 in
+      method-says m 2 (x + 128 * (y + 128 * 127)) f (omega arith) x y 127 _ (omega arith) (omega arith) (omega arith) (omega arith)
+      (params-text x (printWord ws x) (printWord ws y ∷ []) (nameIn t y) [] (spelt t ws sp x) (ap {B = Bytes} (λ u. u ++ (41 ∷ [])) (name-shown y b)))
+  header-says m (x ∷ y ∷ z ∷ []) f g l =
+      let a = g .0 in
+      let b = g .1 .0 in
+      let c = g .1 .1 .0 in
+      method-says m 3 (x + 128 * (y + 128 * z)) f (omega arith) x y z _ (omega arith) (omega arith) (omega arith) (omega arith)
+      (params-text x (printWord ws x) (printWord ws y ∷ printWord ws z ∷ []) (nameIn t y) (nameIn t z) (spelt t ws sp x) (ap₂ {C = Bytes} (λ u v. u ++ (v ++ (41 ∷ []))) (name-shown y b) (name-shown z c)))
+  header-says m (x ∷ y ∷ z ∷ u ∷ xs) f g l = absurd (omega arith)
