@@ -198,7 +198,7 @@ fn moves(table: &[u32], none: &[u32]) {
 }
 
 // All of them, with a script and one that is too large when it is expanded.
-pub fn all(text: &[u8], large: &[u8]) {
+pub(crate) fn all(text: &[u8], large: &[u8]) {
     let mut table = [7u32; 1300];
     let mut wide = [7u32; 1300];
     let none = [7u32; 1300];

@@ -85,7 +85,7 @@ fn same(a: &[u8], b: &[u8]) {
 }
 
 // Loads the script twice and makes one list of calls on each.
-pub fn both(text: &[u8]) {
+pub(crate) fn both(text: &[u8]) {
     let mut table = [0u32; 1280];
     let mut one = [0u32; 16384];
     let mut two = [0u32; 16384];

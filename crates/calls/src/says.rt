@@ -13,7 +13,7 @@ fn numbered(word: &[u8], n: u64) {
 }
 
 // What a move answers.
-pub fn moved(r: Moved) -> bool {
+pub(crate) fn moved(r: Moved) -> bool {
     match r {
         Moved::Inner => {
             io::write_all(1, b"moved");
@@ -39,7 +39,7 @@ pub fn moved(r: Moved) -> bool {
 }
 
 // What a run answers.
-pub fn ran(r: Ran) -> bool {
+pub(crate) fn ran(r: Ran) -> bool {
     match r {
         Ran::Entries {
             moves: m,
@@ -57,7 +57,7 @@ pub fn ran(r: Ran) -> bool {
 }
 
 // What reading a text answers.
-pub fn tabled(r: Tabled) -> bool {
+pub(crate) fn tabled(r: Tabled) -> bool {
     match r {
         Tabled::Done => {
             io::write_all(1, b"done");
@@ -71,7 +71,7 @@ pub fn tabled(r: Tabled) -> bool {
 }
 
 // What loading answers.
-pub fn loaded(r: Loaded) -> bool {
+pub(crate) fn loaded(r: Loaded) -> bool {
     match r {
         Loaded::Done => {
             io::write_all(1, b"done");
@@ -85,7 +85,7 @@ pub fn loaded(r: Loaded) -> bool {
 }
 
 // What printing answers; gives the number of bytes.
-pub fn printed(r: Printed) -> usize {
+pub(crate) fn printed(r: Printed) -> usize {
     match r {
         Printed::Bytes(n) => {
             numbered(b"bytes ", n as u64);
@@ -99,7 +99,7 @@ pub fn printed(r: Printed) -> usize {
 }
 
 // What listing answers; gives the number of bytes.
-pub fn listed(r: Listed) -> usize {
+pub(crate) fn listed(r: Listed) -> usize {
     match r {
         Listed::Bytes(n) => {
             numbered(b"bytes ", n as u64);
@@ -133,7 +133,7 @@ fn difference(words: &[u32], before: &[u32], from: usize) -> usize {
 }
 
 // Prints whether the words from `from` on are those before.
-pub fn kept(words: &[u32], before: &[u32], from: usize) {
+pub(crate) fn kept(words: &[u32], before: &[u32], from: usize) {
     let at = difference(words, before, from);
     if at < words.len() {
         numbered(b"; word ", at as u64);
@@ -159,7 +159,7 @@ fn written(text: &[u8], from: usize) -> usize {
 }
 
 // Prints whether the bytes from `from` on are the points that were there.
-pub fn kept_bytes(text: &[u8], from: usize) {
+pub(crate) fn kept_bytes(text: &[u8], from: usize) {
     let at = written(text, from);
     if at < text.len() {
         numbered(b"; written at ", at as u64);
