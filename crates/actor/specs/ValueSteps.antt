@@ -1,5 +1,5 @@
 -- What each way through the functions over zeros, values and names returns. Assumes nothing.
-use Prim.Native.Nat.{ℕ, suc, _+_, _-_, _≤_, _/_, _%_}
+use Prim.Native.Nat.{ℕ, suc, _+_, _-_, _≤_, _<_, _/_, _%_}
 use mathlib.Core.Path.{_≡_, refl, sym, ap, _∙_}
 use mathlib.Core.Bool.{Bool, true, false, _&&_, not}
 use mathlib.Core.List.{List, _++_}
@@ -61,26 +61,35 @@ within-before p (some v) none = and-false (p v)
     and-false false = refl
 within-before p (some v) (some vs) = refl
 
-module _ (K : List ℕ) (a : ℕ) (w : List ℕ) (at n : ℕ) where
-  abbrev held : ℕ → ℕ → Bool
-  held n at = within (all (allowed K a)) (valuesAt w n at)
+-- whether the actor a may hold the n values at `at`
+abbrev held : List ℕ → ℕ → List ℕ → ℕ → ℕ → Bool
+held K a w n at = within (all (allowed K a)) (valuesAt w n at)
 
-  pub values-none : n ≡ 0 → true ≡ held n at
-  unfolding within valuesAt all
-  values-none e = rw e
+-- the values that are left decide of all
+pub record Left (K : List ℕ) (a : ℕ) (w : List ℕ) (n at left i : ℕ) : Type 0 where
+  pub is : held K a w n at ≡ held K a w left i
 
-  module _ (z : n ≡ 0 → ⊥) (v : Bool) (e : v ≡ within (holds true K a) (valueAt (getD w at 0))) where
-    step : (m : ℕ) → n ≡ suc m → held n at ≡ (v && held m (at + 1))
-    unfolding valuesAt holds
-    step m k = rw (k, e) (within-before (allowed K a) (valueAt (getD w at 0)) (valuesAt w m (at + 1)))
+module _ (K : List ℕ) (a : ℕ) (w : List ℕ) (n at : ℕ) where
+  pub values-start : Left K a w n at n at
+  values-start = record { is = refl }
 
-    pub values-stop : v ≡ false → false ≡ held n at
-    values-stop t = rw (step (n - 1) (omega arith), t)
+  module _ (left i : ℕ) (h : Left K a w n at left i) where
+    pub values-end : left ≤ 0 → true ≡ within (all (allowed K a)) (valuesAt w n at)
+    unfolding within valuesAt all
+    values-end z = let e : left ≡ 0 = omega arith in sym (h .is ∙ rw e)
 
-    pub values-more : v ≡ true → (r : Bool) → r ≡ held (n - 1) (at + 1) → r ≡ held n at
-    values-more t r h = rw (step (n - 1) (omega arith), t) h
+    module _ (z : 0 < left) (v : Bool) (e : v ≡ within (holds true K a) (valueAt (getD w i 0))) where
+      step : (m : ℕ) → left ≡ suc m → held K a w left i ≡ (v && held K a w m (i + 1))
+      unfolding valuesAt holds
+      step m k = rw (k, e) (within-before (allowed K a) (valueAt (getD w i 0)) (valuesAt w m (i + 1)))
 
-pub ruleset values-laws = (needs, values-none, values-stop, values-more)
+      pub values-stop : v ≡ false → false ≡ within (all (allowed K a)) (valuesAt w n at)
+      values-stop t = sym (h .is ∙ step (left - 1) (omega arith) ∙ rw t)
+
+      pub values-next : v ≡ true → Left K a w n at (left - 1) (i + 1)
+      values-next t = record { is = h .is ∙ step (left - 1) (omega arith) ∙ rw t }
+
+pub ruleset values-laws = (needs, values-start, values-end, values-stop, values-next)
 
 -- ---- names
 module _ (x n y : ℕ) where

@@ -23,13 +23,17 @@ pub fn values(w: &[u32], at: usize, n: usize, a: u32, kinds: &[u8; 192]) -> bool
     requires { ⌜ at + n ≤ length (now w) ⌝ }
     ensures { λ r. ⌜ r ≡ within (all (allowed (now (kinds .entry)) a)) (valuesAt (now (w .entry)) n at) ⌝ }
 {
-    if n == 0 {
-        return true;
+    let mut i = at;
+    let mut left = n;
+    while 0 < left {
+        if wellformed::value(w[i], kinds, a, true) {
+            i += 1;
+            left -= 1;
+        } else {
+            return false;
+        }
     }
-    if wellformed::value(w[at], kinds, a, true) {
-        return values(w, at + 1, n - 1, a, kinds);
-    }
-    false
+    true
 }
 
 // Whether `y` is one of the `n` names in `x`.
