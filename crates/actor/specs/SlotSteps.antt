@@ -231,20 +231,28 @@ pub ruleset made-slot-laws = (needs, made-other, made-object, made-isolate, made
 pub ruleset copied-slot-laws = (needs, copied-other, copied-kind, copied-all)
 
 -- ---- a series
+-- the slots that are left, from the m-th at i on, with their methods from e on, decide where all end
+pub record Left (f : ℕ → ℕ → ℕ → ℕ) (k n at b left m i e : ℕ) : Type 0 where
+  pub is : slotsEnd f k n at b ≡ slotsEnd f left m i e
+
 module _ (f : ℕ → ℕ → ℕ → ℕ) (k n at b : ℕ) where
-  pub slots-none : k ≡ 0 → b ≡ slotsEnd f k n at b
-  unfolding slotsEnd
-  slots-none e = rw e
+  pub slots-start : Left f k n at b k n at b
+  slots-start = record { is = refl }
 
-  module _ (z : k ≡ 0 → ⊥) (e : ℕ) (d : e ≡ f n at b) where
-    step : (m : ℕ) → k ≡ suc m → slotsEnd f k n at b ≡ cond (leb e 1536) (slotsEnd f m (suc n) (at + 8) e) 4096
+  module _ (left m i e : ℕ) (h : Left f k n at b left m i e) where
+    pub slots-done : left ≤ 0 → e ≡ slotsEnd f k n at b
     unfolding slotsEnd
-    step m h = rw (h, ← d)
+    slots-done l = let z : left ≡ 0 = omega arith in sym (h .is ∙ rw z)
 
-    pub slots-far : 1536 < e → 4096 ≡ slotsEnd f k n at b
-    slots-far l = rw (step (k - 1) (omega arith), lt-leb e 1536 l)
+    module _ (l : 0 < left) (r : ℕ) (d : r ≡ f m i e) where
+      step : (j : ℕ) → left ≡ suc j → slotsEnd f left m i e ≡ cond (leb r 1536) (slotsEnd f j (suc m) (i + 8) r) 4096
+      unfolding slotsEnd
+      step j z = rw (z, ← d)
 
-    pub slots-more : e ≤ 1536 → (r : ℕ) → r ≡ slotsEnd f (k - 1) (n + 1) (at + 8) e → r ≡ slotsEnd f k n at b
-    slots-more l r h = rw (step (k - 1) (omega arith), le-leb e 1536 l, ← add-one n) h
+      pub slots-far : 1536 < r → 4096 ≡ slotsEnd f k n at b
+      slots-far g = sym (h .is ∙ rw (step (left - 1) (omega arith), lt-leb r 1536 g))
 
-pub ruleset slots-laws = (needs, slots-none, slots-far, slots-more)
+      pub slots-next : r ≤ 1536 → Left f k n at b (left - 1) (m + 1) (i + 8) r
+      slots-next g = record { is = h .is ∙ rw (step (left - 1) (omega arith), le-leb r 1536 g, ← add-one m) }
+
+pub ruleset slots-laws = (needs, slots-start, slots-done, slots-far, slots-next)

@@ -234,14 +234,20 @@ pub fn made(
     requires { ⌜ (at + 8 * k ≤ length (now w)) × (n + k ≤ 32) × (words ≤ 64) × (a < 4) × (length (now bodies) ≤ 1536) × (b ≤ 1536) ⌝ }
     ensures { λ r. ⌜ r ≡ slotsEnd (madeEnd (now (kinds .entry)) a words (now (w .entry)) (methodsReach true (now (kinds .entry)) a words (now (bodies .entry))) (methodsReach false (now (kinds .entry)) a words (now (bodies .entry)))) k n at b ⌝ }
 {
-    if k == 0 {
-        return b;
+    let mut i = at;
+    let mut m = n;
+    let mut left = k;
+    let mut e = b;
+    while 0 < left {
+        e = made_slot(w, i, m, bodies, e, a, words, kinds);
+        if BODIES < e {
+            return FAIL;
+        }
+        i += 8;
+        m += 1;
+        left -= 1;
     }
-    let e = made_slot(w, at, n, bodies, b, a, words, kinds);
-    if BODIES < e {
-        return FAIL;
-    }
-    made(w, at + 8, n + 1, k - 1, bodies, e, a, words, kinds)
+    e
 }
 
 // The same of series c.
@@ -259,12 +265,18 @@ pub fn copied(
     requires { ⌜ (at + 8 * k ≤ length (now w)) × (n + k ≤ 32) × (words ≤ 64) × (a < 4) × (length (now bodies) ≤ 1536) × (b ≤ 1536) ⌝ }
     ensures { λ r. ⌜ r ≡ slotsEnd (copiedEnd (now (kinds .entry)) a words (now (w .entry)) (methodsReach true (now (kinds .entry)) a words (now (bodies .entry))) (methodsReach false (now (kinds .entry)) a words (now (bodies .entry)))) k n at b ⌝ }
 {
-    if k == 0 {
-        return b;
+    let mut i = at;
+    let mut m = n;
+    let mut left = k;
+    let mut e = b;
+    while 0 < left {
+        e = copied_slot(w, i, m, bodies, e, a, words, kinds);
+        if BODIES < e {
+            return FAIL;
+        }
+        i += 8;
+        m += 1;
+        left -= 1;
     }
-    let e = copied_slot(w, at, n, bodies, b, a, words, kinds);
-    if BODIES < e {
-        return FAIL;
-    }
-    copied(w, at + 8, n + 1, k - 1, bodies, e, a, words, kinds)
+    e
 }
