@@ -7,7 +7,8 @@ use Prim.Native.Nat.{ℕ, zero, suc, _+_, _≤_, _<_}
 use native.Mathlib.Numerals.{add-one}
 use native.Mathlib.Omega.{arith}
 use borrow.Author.Needs.{needs}
-use borrow.Author.Tests.{eqb-true, eqb-false}
+use borrow.Author.Tests.{eqb-true, eqb-false, ne-eqb}
+use lib.Bits.{bitOr, and-le-l, or-zero-r, or-add-and}
 use lib.Dec.{eqb}
 use lib.ListN.{length, take, drop, getD, set}
 use Rattle.layout.specs.Pack.{zeros}
@@ -73,6 +74,14 @@ module _ (a b : List ℕ) where
   same-end i n r h k s = let z : i ≡ n = omega arith in transp (λ m. Same (take m a) (take m b) r) z s
 
 -- ---- zeros
+-- x or y is zero as x is where y is zero, and not zero where y is not
+pub gathers : (x y : ℕ) → Still (eqb x 0) y 0 (eqb (bitOr x y) 0)
+gathers x y =
+    record {
+      equal = λ z. ap (λ n. eqb (bitOr x n) 0) z ∙ ap (λ n. eqb n 0) (or-zero-r x);
+      other = λ f. ne-eqb (bitOr x y) 0 (λ z. f (omega (arith, z, or-add-and x y, and-le-l x y)));
+    }
+
 zero-in : (i n : ℕ) → getD (zeros n) i 0 ≡ 0
 unfolding zeros
 zero-in i zero = refl
@@ -114,4 +123,4 @@ copy-more from old new i n l h k c =
 pub copy-end : (from old new : List ℕ) (i n : ℕ) → n ≤ i → i ≤ n → Copied from i old new → Copied from n old new
 copy-end from old new i n h k c = let z : i ≡ n = omega arith in transp (λ m. Copied from m old new) z c
 
-pub ruleset laws = (needs, same-start, same-more, same-end, zero-start, zero-more, zero-end, still-same, still-not, copy-start, copy-more, copy-end)
+pub ruleset laws = (needs, same-start, same-more, same-end, gathers, zero-start, zero-more, zero-end, still-same, still-not, copy-start, copy-more, copy-end)

@@ -1,5 +1,6 @@
 // Runs of words and bytes, compared and copied.
 ghost use Prim.Native.Nat.{_≤_};
+ghost use lib.Dec.{eqb};
 ghost use lib.ListN.{length, take};
 ghost use Rattle.layout.specs.Pack.{zeros};
 ghost use Rattle.words.specs.Runs.{Still, Same, Copied};
@@ -28,17 +29,24 @@ pub fn same_words(a: &[u32], b: &[u32], n: usize) -> bool
     same
 }
 
-// Whether every word of `w` is zero. It looks at all of them, as above.
+// The bits that `x` or `y` has: none exactly when both are zero.
+fn gathered(x: u32, y: u32) -> u32
+    ensures { λ r. ⌜ Still (eqb x 0) y 0 (eqb r 0) ⌝ }
+{
+    x | y
+}
+
+// Whether every word of `w` is zero. It looks at all of them, as above, and compares once, in the end.
 pub fn all_zero(w: &[u32]) -> bool
     ensures { λ r. ⌜ Same (now (w .entry)) (zeros (length (now (w .entry)))) r ⌝ }
 {
-    let mut zero = true;
+    let mut x = 0;
     let mut i = 0;
     while i < w.len() {
-        zero = still(zero, w[i], 0);
+        x = gathered(x, w[i]);
         i += 1;
     }
-    zero
+    x == 0
 }
 
 // Puts the first `n` bytes of `from` in front of `to`.

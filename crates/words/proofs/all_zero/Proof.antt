@@ -1,5 +1,6 @@
--- `words::all_zero` meets its contract. The loop's invariant: it tells of the words passed whether they are zeros. Assumes nothing.
+-- `words::all_zero` meets its contract. The loop's invariant: the bits gathered tell of the words passed whether they are zeros. Assumes nothing.
 use Prim.Native.Nat.{_-_, _≤_}
+use lib.Dec.{eqb}
 use lib.ListN.{length, take}
 use Rattle.layout.specs.Pack.{zeros}
 use Rattle.words.specs.Runs.{laws, Same}
@@ -7,10 +8,10 @@ use Rattle.words.proofs.all_zero.Statement.{statement}
 use Rattle.words.proofs.all_zero.Tie as tie
 
 abbrev Inv-loop : tie.InvT-loop
-Inv-loop w zero₀ i₀ zero i = Same (take i w) (take i (zeros (length w))) zero × (i ≤ length w)
+Inv-loop w x₀ i₀ x i = Same (take i w) (take i (zeros (length w))) (eqb x 0) × (i ≤ length w)
 
 abbrev μ-loop : tie.MeasureT-loop
-μ-loop w zero₀ i₀ zero i = length w - i
+μ-loop w x₀ i₀ x i = length w - i
 
 pub all-zero-spec : {M : Type 1} → statement M
 all-zero-spec =
@@ -19,9 +20,9 @@ all-zero-spec =
     Inv-loop
     μ-loop
     (λ c. search laws)  -- loop-holds
-    (λ c. search laws)  -- mul-still
-    (λ c. search laws)  -- shared-slice-read-still
-    (λ c κs. search laws)  -- still-requires
+    (λ c. search laws)  -- mul-gathered
+    (λ c. search laws)  -- shared-slice-read-gathered
+    (λ c κs. search laws)  -- gathered-requires
     (λ c. search laws)  -- add-i
     (λ c. search laws)  -- loop-less
     (λ c. search laws)  -- loop-again
