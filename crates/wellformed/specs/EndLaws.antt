@@ -1,5 +1,5 @@
 -- Ends of parts that stand one after another. What is read from 4096 on ends there, so that a part that fails fails all. Assumes nothing.
-use Prim.Native.Nat.{ℕ, zero, suc, _+_, _/_, _%_, _≤_, _<_}
+use Prim.Native.Nat.{ℕ, zero, suc, _≤_, _<_}
 use mathlib.Core.Path.{_≡_, refl, sym, ap, _∙_}
 use mathlib.Core.Bool.{Bool, true, false, _&&_, cond, true≢false}
 use mathlib.Core.List.{List}
@@ -8,7 +8,6 @@ use native.Mathlib.Omega.{arith}
 use lib.ListN.{length, getD, List·getD-eq-default}
 use Rattle.atlite.specs.Term.{Term, Terms, nil, Inits, noField, Methods, noMethod}
 use Rattle.layout.specs.Parse.{Got, none, got, onGot, pair, behind, heads, headIn, headAt, fieldAt, methodAt, termsBy, initsBy, methodsBy, formed, parseTerms, parseInits, parseMethods}
-use Rattle.layout.specs.ParseHeads.{head-kind}
 use Rattle.layout.specs.ParseLaws.{parse, parse-step}
 use Rattle.wellformed.specs.Words.{within}
 use Rattle.wellformed.specs.Ends.{endOf}
@@ -136,7 +135,3 @@ module _ (w : List ℕ) (l : length w ≤ 4096) where
   unfolding endOf methodsBy
   methods-nowhere t zero = ends-here t noMethod
   methods-nowhere t (suc n) = rw (methods-past w 4096 l n)
-
--- ---- one step, by the kind that was found
-pub parse-kind : (w : List ℕ) (at k : ℕ) → getD w at 0 / 16777216 ≡ k → parse w at ≡ formed (headIn k (getD w at 0 % 16777216)) (λ i. parse w i) w (at + 1)
-parse-kind w at k e = parse-step w at ∙ ap (λ h. formed h (λ i. parse w i) w (at + 1)) (head-kind (getD w at 0) k e)

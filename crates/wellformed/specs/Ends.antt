@@ -15,7 +15,7 @@ use Rattle.atlite.specs.ValidTest.{held, wellFormed, wellFormedAll, wellFormedM
 use Rattle.layout.specs.Pack.{names}
 use Rattle.layout.specs.PackLaws.{Each}
 use Rattle.layout.specs.Terms.{kindNumber}
-use Rattle.layout.specs.Parse.{Got, none, got, literalHead, headIn, fieldAt, methodAt, formed, parseTerms, parseInits, parseMethods}
+use Rattle.layout.specs.Parse.{Got, none, got, literalHead, headIn, headAt, fieldAt, methodAt, formed, parseTerms, parseInits, parseMethods}
 use Rattle.layout.specs.ParseLaws.{parse}
 use Rattle.wellformed.specs.Words.{within, holds}
 
@@ -26,12 +26,6 @@ endOf t (got a i) = cond (t a) i 4096
 -- the methods of an entity, which see their `this` alone
 unfoldable pub methodsHold : ℕ → (Value → Bool) → Methods → Bool
 methodsHold c p ms = namesWithin 4 c (methodNames ms) && wellFormedMethods c p (this ∷ []) ms
-
--- a position, if the word before it passed
-pub record Behind (o : Bool) (at r : ℕ) : Type 0 where
-  pub is : r ≡ cond o at 4096
-  pub low : at ≤ r
-  pub high : r ≤ 4096
 
 -- ---- scopes
 -- A list has for each word the level at which it is bound, the level being one more in each literal that hides what is around it: the
@@ -98,10 +92,10 @@ methodHead c ns h = fresh c ns (h .0) && parameters c (h .1)
 unfoldable pub MethodHeader : ℕ → ℕ → ℕ → Bool → Type 0
 MethodHeader c N h r = (n : ℕ) (ns : List ℕ) → 0 < n → Met N n ns → r ≡ within (methodHead c ns) (methodAt h)
 
--- how many terms a call or a send of payload p has, if it has at most seven arguments
+-- how many terms stand behind a call or a send of payload p
 pub record Arguments (p r : ℕ) : Type 0 where
-  pub is : r ≡ 1 + p / 128 / 4 % 8
-  pub few : r ≤ 8
+  pub is : r ≡ 1 + p / 128 / 4
+  pub few : r ≤ 8388608
 
 -- ---- fields and methods behind others with the names ns
 unfoldable pub fieldsWell : ℕ → (Value → Bool) → List ℕ → List ℕ → Inits → Bool
@@ -112,13 +106,43 @@ unfoldable pub methodsWell : ℕ → (Value → Bool) → List ℕ → List ℕ 
 methodsWell c p xs ns noMethod = true
 methodsWell c p xs ns (method m ys e ms) = methodHead c ns (m, ys) && (wellFormed c p (ys ++ xs) e && methodsWell c p xs (m ∷ ns) ms)
 
+-- ---- words
+-- where n terms end
+abbrev pub termsEnd : ℕ → (Value → Bool) → List ℕ → List ℕ → ℕ → ℕ → ℕ
+termsEnd c p xs w n at = endOf (wellFormedAll c p xs) (parseTerms (length w) w n at)
+
+-- where a term ends whose word h stands before `at`
+abbrev pub wordEnd : ℕ → (Value → Bool) → List ℕ → List ℕ → ℕ → ℕ → ℕ
+wordEnd c p xs w h at = endOf (wellFormed c p xs) (formed (headAt h) (λ i. parse w i) w at)
+
+-- of a word that nothing stands behind: whether it is a term
+unfoldable pub Leaf : ℕ → (Value → Bool) → List ℕ → ℕ → ℕ → Bool → Type 0
+Leaf c p F g h o = (xs : List ℕ) → Scope F g xs → (w : List ℕ) (at : ℕ) → cond o at 4096 ≡ wordEnd c p xs w h at
+
+-- The word h is that of a binder or a literal, or of no term.
+unfoldable pub Closed : ℕ → ℕ → Type 0
+Closed c h = (h / 16777216 ≡ 11 → ⊥) → (h / 16777216 ≡ 12 → ⊥) → (h / 16777216 ≡ 15 → ⊥) → (h / 16777216 ≡ 16 → ⊥) → (h / 16777216 ≡ 17 → ⊥)
+    → (p : Value → Bool) (xs w : List ℕ) (at : ℕ) → 4096 ≡ wordEnd c p xs w h at
+
+-- Behind the word h of a term stand r terms in the same scope; 0 says that h is closed.
+pub record Operands (c h r : ℕ) : Type 0 where
+  pub few : r ≤ 8388608
+  pub none : r ≡ 0 → Closed c h
+  pub some : 0 < r → (p : Value → Bool) (xs w : List ℕ) (at : ℕ) → termsEnd c p xs w r at ≡ wordEnd c p xs w h at
+
+-- a number, if a word passed
+pub record Counted (o : Bool) (n r : ℕ) : Type 0 where
+  pub is : r ≡ cond o n 0
+  pub few : r ≤ n
+
 -- ---- ends: in a state of c words, where p may be held, in the scope of F at the level g and, of a literal's parts, behind the names in N
 module _ (c : ℕ) (p : Value → Bool) (F : List ℕ) (g : ℕ) (w : List ℕ) where
   unfoldable pub TermEnds : ℕ → ℕ → Type 0
   TermEnds at r = (xs : List ℕ) → Scope F g xs → r ≡ endOf (wellFormed c p xs) (parse w at)
 
-  unfoldable pub TermsEnd : ℕ → ℕ → ℕ → Type 0
-  TermsEnd n at r = (xs : List ℕ) → Scope F g xs → r ≡ endOf (wellFormedAll c p xs) (parseTerms (length w) w n at)
+  -- what is left of the term at `at` are n terms at i
+  unfoldable pub Left : ℕ → ℕ → ℕ → Type 0
+  Left at n i = (xs : List ℕ) → Scope F g xs → termsEnd c p xs w n i ≡ endOf (wellFormed c p xs) (parse w at)
 
   unfoldable pub FieldsEnd : ℕ → ℕ → ℕ → ℕ → Type 0
   FieldsEnd N n at r = (xs ns : List ℕ) → Scope F g xs → Met N n ns → r ≡ endOf (fieldsWell c p xs ns) (parseInits (length w) w n at)

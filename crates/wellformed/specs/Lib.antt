@@ -11,6 +11,7 @@ pub mod ScopeLaws
 pub mod NameLaws
 pub mod HeaderLaws
 -- the laws of terms
+pub mod ShapeLaws
 pub mod FormLaws
 pub mod ListLaws
 pub mod LiteralLaws

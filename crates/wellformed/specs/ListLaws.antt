@@ -1,10 +1,11 @@
--- The laws of the functions that find where lists of terms, fields and methods end, and literals: one for each way to return. Assumes
--- nothing.
-use Prim.Native.Nat.{ℕ, zero, suc, _+_, _-_, _*_, _/_, _%_, _≤_}
+-- The laws of the loop over the terms that are left, and of the functions that find where lists of fields and methods end: one for each
+-- turn and each way to return. Assumes nothing.
+use Prim.Native.Nat.{ℕ, zero, suc, _+_, _-_, _*_, _/_, _%_, _≤_, _<_}
 use mathlib.Core.Path.{_≡_, refl, sym, ap, _∙_}
 use mathlib.Core.Bool.{Bool, true, false}
 use mathlib.Core.List.{List, _∷_, _++_}
 use mathlib.Core.Option.{some}
+use native.Mathlib.Nat.{zero-add}
 use native.Mathlib.Numerals.{sub-one}
 use native.Mathlib.Omega.{arith}
 use borrow.Author.Needs.{needs}
@@ -13,32 +14,84 @@ use Rattle.atlite.specs.Facts.{and₂}
 use Rattle.atlite.specs.Term.{Value, Term, cons, Inits, Methods, method}
 use Rattle.atlite.specs.Valid.{parameters}
 use Rattle.atlite.specs.ValidTest.{wellFormed, wellFormedAll}
-use Rattle.layout.specs.Parse.{pair, fieldAt, methodAt, termsBy, initsBy, methodsBy, parseTerms, parseInits, parseMethods}
+use Rattle.layout.specs.Parse.{pair, headAt, fieldAt, methodAt, termsBy, initsBy, methodsBy, parseTerms, parseInits, parseMethods}
 use Rattle.layout.specs.ParseWords.{holding, field-word}
-use Rattle.layout.specs.ParseLaws.{parse}
+use Rattle.layout.specs.ParseLaws.{parse, parse-step}
 use Rattle.checks.specs.Bound.{Kept}
-use Rattle.wellformed.specs.Ends.{endOf, bound, fresh, Met, FieldHeader, methodHead, MethodHeader, fieldsWell, methodsWell, TermEnds, TermsEnd, FieldsEnd, MethodsEnd}
+use Rattle.wellformed.specs.Ends.{endOf, Scope, bound, fresh, Met, FieldHeader, methodHead, MethodHeader, fieldsWell, methodsWell, termsEnd, Leaf, Closed, Operands, TermEnds, Left, FieldsEnd, MethodsEnd, FormEnds}
 use Rattle.wellformed.specs.ScopeLaws.{method-bound}
 use Rattle.wellformed.specs.NameLaws.{met-noted}
-use Rattle.wellformed.specs.EndLaws.{ends-pair, headed, headed-none, terms-nowhere, fields-nowhere, methods-nowhere, fields-past, methods-past}
+use Rattle.wellformed.specs.EndLaws.{ends-pair, headed, headed-none, terms-nowhere, fields-nowhere, methods-nowhere, parse-past, fields-past, methods-past}
+use Rattle.wellformed.specs.ShapeLaws.{one-term}
 
--- ---- terms
-module _ (c : ℕ) (p : Value → Bool) (F : List ℕ) (g : ℕ) (w : List ℕ) (n at : ℕ) where
-  pub terms-none : n ≡ 0 → TermsEnd c p F g w n at at
-  unfolding TermsEnd termsBy endOf wellFormed
-  terms-none z xs s = rw z
+-- ---- terms one behind another
+-- Terms are looked for where the first of them ends, and those behind some where these end. What fails ends at 4096, and so do all behind it.
+module _ (c : ℕ) (p : Value → Bool) (xs w : List ℕ) (l : length w ≤ 1536) where
+  first-end : (n i : ℕ) → 0 < n → termsEnd c p xs w (n - 1) (endOf (wellFormed c p xs) (parse w i)) ≡ termsEnd c p xs w n i
+  unfolding termsBy wellFormed
+  first-end zero i z = absurd (omega arith)
+  first-end (suc n) i z =
+      rw sub-one
+      (ends-pair cons (wellFormedAll c p xs) (wellFormed c p xs) (wellFormedAll c p xs) (parse w i) (λ i. parseTerms (length w) w n i) (terms-nowhere w (omega arith) (wellFormedAll c p xs) n) (λ e i es m g q. refl))
 
-  pub terms-more : (a r : ℕ) (G : List ℕ) → length w ≤ 1536 → (n ≡ 0 → ⊥) → TermEnds c p F g w at a → Kept F G → TermsEnd c p G g w (n - 1) a r → TermsEnd c p F g w n at r
-  unfolding TermEnds TermsEnd Kept termsBy wellFormed
-  terms-more a r G l z i k j xs s = j xs (rw k s) ∙ rw (i xs s) (go n z)
-    where
-      go : (n : ℕ) → (n ≡ 0 → ⊥) → endOf (wellFormedAll c p xs) (parseTerms (length w) w (n - 1) (endOf (wellFormed c p xs) (parse w at))) ≡ endOf (wellFormedAll c p xs) (parseTerms (length w) w n at)
-      go zero z = absurd (z refl)
-      go (suc n) z =
-          rw sub-one
-          (ends-pair cons (wellFormedAll c p xs) (wellFormed c p xs) (wellFormedAll c p xs) (parse w at) (λ i. parseTerms (length w) w n i) (terms-nowhere w (omega arith) (wellFormedAll c p xs) n) (λ e i es m g q. refl))
+  some-end : (m n i : ℕ) → termsEnd c p xs w n (termsEnd c p xs w m i) ≡ termsEnd c p xs w (m + n) i
+  unfolding termsBy endOf wellFormed
+  some-end zero n i = rw (zero-add n)
+  some-end (suc m) n i =
+      let a : suc m - 1 ≡ m = omega arith in
+      let b : suc m + n - 1 ≡ m + n = omega arith in
+      ap (λ i. termsEnd c p xs w n i) (sym (rw a at (first-end (suc m) i (omega arith))))
+      ∙ some-end m n (endOf (wellFormed c p xs) (parse w i))
+      ∙ rw b at (first-end (suc m + n) i (omega arith))
 
-pub ruleset terms-laws = (needs, terms-none, terms-more)
+module _ (c : ℕ) (p : Value → Bool) (F : List ℕ) (g : ℕ) (w : List ℕ) (at : ℕ) where
+  pub left-one : Left c p F g w at 1 at
+  unfolding Left termsBy
+  left-one xs s = one-term c p xs (parse w at)
+
+  module _ (n i : ℕ) (q : Left c p F g w at n i) where
+    pub left-none : n ≤ 0 → TermEnds c p F g w at i
+    unfolding Left TermEnds termsBy endOf wellFormed
+    left-none z xs s = let e : n ≡ 0 = omega arith in rw e at (q xs s)
+
+    module _ (l : length w ≤ 1536) (z : 0 < n) where
+      -- the first of them
+      first-left : (r : ℕ) (xs : List ℕ) → r ≡ endOf (wellFormed c p xs) (parse w i) → Scope F g xs → termsEnd c p xs w (n - 1) r ≡ endOf (wellFormed c p xs) (parse w at)
+      unfolding Left
+      first-left r xs e s = ap (λ i. termsEnd c p xs w (n - 1) i) e ∙ first-end c p xs w l n i z ∙ q xs s
+
+      first-none : (xs : List ℕ) → 4096 ≡ endOf (wellFormed c p xs) (parse w i) → Scope F g xs → 4096 ≡ endOf (wellFormed c p xs) (parse w at)
+      first-none xs e s = sym (terms-nowhere w (omega arith) (wellFormedAll c p xs) (n - 1)) ∙ first-left 4096 xs e s
+
+      pub left-past : length w ≤ i → TermEnds c p F g w at 4096
+      unfolding TermEnds endOf
+      left-past k xs s = first-none xs (rw (parse-past w i k)) s
+
+      module _ (G : List ℕ) (k : Kept F G) where
+        module _ (o : Bool) (y : Leaf c p G g (getD w i 0) o) where
+          pub left-leaf : o ≡ true → Left c p F g w at (n - 1) (i + 1)
+          unfolding Left Leaf Kept
+          left-leaf u xs s = first-left (i + 1) xs (rw u at (y xs (rw k s) w (i + 1)) ∙ rw (parse-step w i)) s
+
+          pub left-no-leaf : o ≡ false → TermEnds c p F g w at 4096
+          unfolding TermEnds Leaf Kept
+          left-no-leaf u xs s = first-none xs (rw u at (y xs (rw k s) w (i + 1)) ∙ rw (parse-step w i)) s
+
+        pub left-form : (r : ℕ) → FormEnds c p G g w (getD w i 0 / 16777216) (getD w i 0 % 16777216) (i + 1) r → Left c p F g w at (n - 1) r
+        unfolding Left FormEnds Kept headAt
+        left-form r j xs s = first-left r xs (j xs (rw k s) ∙ rw (parse-step w i)) s
+
+      pub left-operands : (m : ℕ) → Operands c (getD w i 0) m → 0 < m → Left c p F g w at (n - 1 + m) (i + 1)
+      unfolding Left
+      left-operands m y u xs s =
+          let a : n - 1 + m ≡ m + (n - 1) = omega arith in
+          rw a (sym (some-end c p xs w l m (n - 1) (i + 1)) ∙ first-left (termsEnd c p xs w m (i + 1)) xs (y .some u p xs w (i + 1) ∙ rw (parse-step w i)) s)
+
+-- a word without operands
+pub closed : (c h n : ℕ) → Operands c h n → n ≤ 0 → Closed c h
+closed c h n y z = y .none (omega arith)
+
+pub ruleset left-laws = (needs, left-one, left-none, left-past, left-leaf, left-no-leaf, left-form, left-operands, closed)
 
 -- ---- fields
 module _ (c : ℕ) (p : Value → Bool) (F : List ℕ) (g : ℕ) (w : List ℕ) (N n at : ℕ) where

@@ -1,6 +1,6 @@
 -- The laws of literals: that their names are new one after another says that they are different, and the ways to return. Assumes
 -- nothing.
-use Prim.Native.Nat.{ℕ, suc, _+_, _/_, _%_, _≤_, _<_}
+use Prim.Native.Nat.{ℕ, suc, _/_, _%_, _≤_, _<_}
 use mathlib.Core.Path.{_≡_, refl, sym, ap, _∙_}
 use mathlib.Core.Bool.{Bool, true, false, _&&_, not, true≢false}
 use mathlib.Core.List.{List, [], _∷_, _++_}
@@ -26,7 +26,7 @@ use Rattle.wellformed.specs.Ends.{endOf, methodsHold, Scope, fresh, meth
 use Rattle.wellformed.specs.ScopeLaws.{scope-none, scope-bind}
 use Rattle.wellformed.specs.NameLaws.{met-none}
 use Rattle.wellformed.specs.EndLaws.{ends-same, ends-none, ends-pair, ends-pair-none, methods-nowhere}
-use Rattle.wellformed.specs.FormLaws.{tested}
+use Rattle.wellformed.specs.ShapeLaws.{only-none}
 
 -- ---- names one after another
 module _ (c : ℕ) (p : Value → Bool) (xs : List ℕ) where
@@ -128,9 +128,9 @@ module _ (c h : ℕ) (F : List ℕ) (g : ℕ) (w : List ℕ) (at : ℕ) (o : Boo
   pub literal-not : (p : Value → Bool) → o ≡ false → LiteralEnds c p F g w h at 4096
   unfolding LiteralEnds formed
   literal-not p u t k xs s =
-      tested c p xs w at false (ltb (h % 16777216 / 8) 8) 4096 4096 (λ i. i) (parts t (h % 16777216 % 8) (h % 16777216 / 8)) (λ v. refl) refl refl (λ v x. absurd (true≢false (sym x)))
-      (λ v x. ends-pair-none (literal t) (wellFormed c p xs) (parseInits (length w) w (h % 16777216 % 8) at) (λ i. parseMethods (length w) w (h % 16777216 / 8) i) (λ fs i ms j f m.
-      literal-long c p xs t fs ms (rw (inits-sound (length w) w _ at fs i f .1, methods-sound (length w) w _ i ms j m .1) (sym e ∙ u)))) refl
+      only-none c p xs w at (ltb (h % 16777216 / 8) 8) (parts t (h % 16777216 % 8) (h % 16777216 / 8))
+      (λ v. ends-pair-none (literal t) (wellFormed c p xs) (parseInits (length w) w (h % 16777216 % 8) at) (λ i. parseMethods (length w) w (h % 16777216 / 8) i) (λ fs i ms j f m.
+      literal-long c p xs t fs ms (rw (inits-sound (length w) w _ at fs i f .1, methods-sound (length w) w _ i ms j m .1) (sym e ∙ u))))
 
   pub literal-well : (refs own : Bool) (K : List ℕ) (b i u a r : ℕ) (G H : List ℕ) → length w ≤ 1536 → o ≡ true → Opens g h i → Refers refs h own → Swapped F 0 i G u
       → FieldsEnd c (holds own K b) G i w 0 (h % 16777216 % 8) at a → Kept G H → MethodsEnd c (holds own K b) H i w 0 (h % 16777216 / 8 % 8) a r

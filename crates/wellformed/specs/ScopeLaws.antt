@@ -97,7 +97,7 @@ module _ (F : List ℕ) (g : ℕ) (xs : List ℕ) (s : Scope F g xs) (n : ℕ) w
   abbrev z : ℕ
   z = n / 16384 % 128
 
-  pub one-bound : x < 127 → y ≡ 127 → z ≡ 127 → Scope (bound F g n) g (x ∷ xs)
+  one-bound : x < 127 → y ≡ 127 → z ≡ 127 → Scope (bound F g n) g (x ∷ xs)
   unfolding bound
   one-bound i j k = scope-bind _ g xs (scope-past _ g xs (scope-past F g xs s z k) y j) x i
 
@@ -176,6 +176,10 @@ pub swap-kept : (F : List ℕ) (x v o u : ℕ) (G H I J : List ℕ) → Swapped 
 unfolding Kept
 swap-kept F x v o u G H I J p e f q = q .new ∙ rw (f ∙ e, p .new, p .old) (put-back F x v)
 
+pub swap-back : (F G H I J : List ℕ) (x v o u : ℕ) → Kept F G → Swapped G x v H o → Kept H I → Swapped I x o J u → Kept F J
+unfolding Kept
+swap-back F G H I J x v o u d p e q = q .new ∙ rw (e, p .new, p .old) (put-back G x v) ∙ d
+
 pub kept-after : (F G H : List ℕ) → Kept F G → Kept G H → Kept F H
 unfolding Kept
 kept-after F G H e f = f ∙ e
@@ -215,4 +219,4 @@ module _ (refs : Bool) (h : ℕ) where
 
 pub ruleset laws = (needs, sees-bound, sees-unbound, sees-none, swapped, all-bound, all-unbound, opens-object, opens-alone, refers-object, refers-alone)
 
-pub ruleset kept-laws = (needs, kept, kept-after, inside-kept, swap-kept)
+pub ruleset kept-laws = (needs, kept, kept-after, inside-kept, swap-kept, swap-back)

@@ -164,5 +164,5 @@ pub fn is_small(p: u32) -> bool
 pub fn arguments(p: u32) -> usize
     ensures { λ r. ⌜ Arguments p r ⌝ }
 {
-    (1 + p / 128 / 4 % 8) as usize
+    (1 + p / 128 / 4) as usize
 }

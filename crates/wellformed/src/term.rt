@@ -1,10 +1,9 @@
 // Where terms end. What falls from call to call is what is left of the words.
-ghost use mathlib.Core.Path.{_≡_};
-ghost use Prim.Native.Nat.{_+_, _≤_, _<_};
+ghost use Prim.Native.Nat.{_+_, _≤_, _<_, _/_, _%_};
 ghost use lib.ListN.{length};
 ghost use Rattle.checks.specs.Bound.{Kept};
 ghost use Rattle.wellformed.specs.Words.{holds};
-ghost use Rattle.wellformed.specs.Ends.{Behind, bound, TermEnds, TermsEnd, FormEnds, LiteralEnds, FieldsEnd, MethodsEnd};
+ghost use Rattle.wellformed.specs.Ends.{bound, Leaf, Counted, Operands, Closed, TermEnds, FormEnds, LiteralEnds, FieldsEnd, MethodsEnd};
 use crate::FAIL;
 use crate::PAYLOAD;
 use crate::header;
@@ -19,76 +18,113 @@ pub struct Context {
     pub level: u16,
 }
 
-// The empty places behind one name of three, and behind two.
-const AFTER_ONE: u32 = 2097024;
-
+// The empty place behind two names of three.
 const AFTER_TWO: u32 = 2080768;
 
-// `at`, if the word before it passed.
-fn behind(ok: bool, at: usize) -> usize
-    requires { ⌜ at ≤ 4096 ⌝ }
-    ensures { λ r. ⌜ Behind ok at r ⌝ }
+// Words below this one have nothing behind them.
+const OPERANDS: u32 = 117440512;
+
+// Whether the word `h` is a variable in scope, or a value.
+fn leaf(h: u32, scope: &[u16; 128], kinds: &[u8; 192], e: Context) -> bool
+    requires { ⌜ h < 117440512 ⌝ }
+    ensures { λ r. ⌜ Leaf (e .words) (holds (e .refs) (now (kinds .entry)) (e .actor)) (now (scope .entry)) (e .level) h r ⌝ }
 {
-    if ok {
-        return at;
+    if h / PAYLOAD == 6 {
+        return scopes::sees(scope, e.level, h % PAYLOAD);
     }
-    FAIL
+    crate::value(h, kinds, e.actor, e.refs)
 }
 
-// The end of the term at `at`.
+// `n`, if the word passed.
+fn counted(ok: bool, n: usize) -> usize
+    ensures { λ r. ⌜ Counted ok n r ⌝ }
+{
+    if ok {
+        return n;
+    }
+    0
+}
+
+// How many terms stand behind the word `h` of an operator, all in its own scope. 0 says that it is none, or not with this payload.
+fn operands(h: u32, words: u32) -> usize
+    requires { ⌜ (117440512 ≤ h) × (words ≤ 64) ⌝ }
+    ensures { λ r. ⌜ Operands words h r ⌝ }
+{
+    let p = h % PAYLOAD;
+    let n = header::arguments(p);
+    match h / PAYLOAD {
+        7 => counted(p == 0, 2),
+        8 => counted(p == 0, 2),
+        9 => counted(word::is_name(p, words), 1),
+        10 => counted(word::is_name(p, words), 2),
+        13 => counted(word::call_name(h, words), n),
+        14 => counted(crate::message_name(h, words), n),
+        _ => 0,
+    }
+}
+
+// The end of the term at `at`. One word a turn, and its operands are among the terms still to come. Only a word that changes the scope is
+// read by a call; where that fails it answers 4096, and the next turn finds no word there.
 pub fn term(w: &[u32], at: usize, scope: &mut [u16; 128], kinds: &[u8; 192], e: Context) -> usize
     requires { ⌜ (length (now w) ≤ 1536) × (at ≤ 4096) × (e .words ≤ 64) × (e .level ≤ at + 1) ⌝ }
     ensures { λ r. ⌜ TermEnds (e .words) (holds (e .refs) (now (kinds .entry)) (e .actor)) (now (scope .entry)) (e .level) (now (w .entry)) at r ⌝ }
     ensures { λ r. ⌜ Kept (now (scope .entry)) (now (scope .exit)) ⌝ }
     ensures { λ r. ⌜ (at ≤ r) × (r ≤ 4096) ⌝ }
 {
-    if w.len() <= at {
-        return FAIL;
+    let mut i = at;
+    let mut left: usize = 1;
+    while 0 < left {
+        if w.len() <= i {
+            return FAIL;
+        }
+        let h = w[i];
+        if h < OPERANDS {
+            if leaf(h, scope, kinds, e) {
+                i += 1;
+                left -= 1;
+                continue;
+            }
+            return FAIL;
+        }
+        let n = operands(h, e.words);
+        if 0 < n {
+            i += 1;
+            left = left - 1 + n;
+            continue;
+        }
+        i = form(w, i + 1, h, scope, kinds, e);
+        left -= 1;
     }
-    let h = w[at];
-    let p = h % PAYLOAD;
-    let i = at + 1;
-    let c = e.words;
-    let n = header::arguments(p);
-    match h / PAYLOAD {
-        6 => behind(scopes::sees(scope, e.level, p), i),
-        7 => terms(w, behind(p == 0, i), 2, scope, kinds, e),
-        8 => terms(w, behind(p == 0, i), 2, scope, kinds, e),
-        9 => term(w, behind(word::is_name(p, c), i), scope, kinds, e),
-        10 => terms(w, behind(word::is_name(p, c), i), 2, scope, kinds, e),
-        11 => let_in(w, i, p, scope, kinds, e),
-        12 => future(w, i, p, scope, kinds, e),
-        13 => terms(w, behind(word::call_name(h, c), i), n, scope, kinds, e),
-        14 => terms(w, behind(crate::message_name(h, c), i), n, scope, kinds, e),
-        15 => literal(w, i, h, scope, kinds, e),
-        16 => literal(w, i, h, scope, kinds, e),
-        17 => literal(w, i, h, scope, kinds, e),
-        _ => behind(crate::value(h, kinds, e.actor, e.refs), i),
-    }
+    i
 }
 
-// The end of the `n` terms at `at`.
-fn terms(
+// The end of a term whose word `h` stands before `at` and is no operator: it binds names, is a literal, or is none at all.
+fn form(
     w: &[u32],
     at: usize,
-    n: usize,
+    h: u32,
     scope: &mut [u16; 128],
     kinds: &[u8; 192],
     e: Context,
 ) -> usize
-    requires { ⌜ (length (now w) ≤ 1536) × (at ≤ 4096) × (e .words ≤ 64) × (e .level ≤ at + 1) × (n ≤ 8) ⌝ }
-    ensures { λ r. ⌜ TermsEnd (e .words) (holds (e .refs) (now (kinds .entry)) (e .actor)) (now (scope .entry)) (e .level) (now (w .entry)) n at r ⌝ }
+    requires { ⌜ (length (now w) ≤ 1536) × (at ≤ 4096) × (e .words ≤ 64) × (e .level ≤ at) ⌝ }
+    requires { ⌜ Closed (e .words) h ⌝ }
+    ensures { λ r. ⌜ FormEnds (e .words) (holds (e .refs) (now (kinds .entry)) (e .actor)) (now (scope .entry)) (e .level) (now (w .entry)) (h / 16777216) (h % 16777216) at r ⌝ }
     ensures { λ r. ⌜ Kept (now (scope .entry)) (now (scope .exit)) ⌝ }
     ensures { λ r. ⌜ (at ≤ r) × (r ≤ 4096) ⌝ }
 {
-    if n == 0 {
-        return at;
+    let p = h % PAYLOAD;
+    match h / PAYLOAD {
+        11 => let_in(w, at, p, scope, kinds, e),
+        12 => future(w, at, p, scope, kinds, e),
+        15 => literal(w, at, h, scope, kinds, e),
+        16 => literal(w, at, h, scope, kinds, e),
+        17 => literal(w, at, h, scope, kinds, e),
+        _ => FAIL,
     }
-    let a = term(w, at, scope, kinds, e);
-    terms(w, a, n - 1, scope, kinds, e)
 }
 
-// The same of one term where the three names in `names` are bound.
+// The end of the term at `at` where the three names in `names` are bound.
 fn inside(
     w: &[u32],
     at: usize,
@@ -117,14 +153,17 @@ fn let_in(
     kinds: &[u8; 192],
     e: Context,
 ) -> usize
-    requires { ⌜ (length (now w) ≤ 1536) × (at ≤ 4096) × (e .words ≤ 64) × (e .level ≤ at + 1) × (x < 16777216) ⌝ }
+    requires { ⌜ (length (now w) ≤ 1536) × (at ≤ 4096) × (e .words ≤ 64) × (e .level ≤ at + 1) ⌝ }
     ensures { λ r. ⌜ FormEnds (e .words) (holds (e .refs) (now (kinds .entry)) (e .actor)) (now (scope .entry)) (e .level) (now (w .entry)) 11 x at r ⌝ }
     ensures { λ r. ⌜ Kept (now (scope .entry)) (now (scope .exit)) ⌝ }
     ensures { λ r. ⌜ (at ≤ r) × (r ≤ 4096) ⌝ }
 {
     if word::is_variable(x, e.words) {
         let a = term(w, at, scope, kinds, e);
-        return inside(w, a, x + AFTER_ONE, scope, kinds, e);
+        let old = scopes::swap(scope, x as usize, e.level);
+        let r = term(w, a, scope, kinds, e);
+        scopes::swap(scope, x as usize, old);
+        return r;
     }
     FAIL
 }

@@ -1,64 +1,67 @@
 -- The functions that find where terms end, which call one another, meet their contracts. What is left of the words falls at every call;
--- at one position a literal stands above its lists, a list above its elements and a binder above its terms. Assumes nothing.
-use Rattle.wellformed.specs.FormLaws.{term-laws, binder-laws}
-use Rattle.wellformed.specs.ListLaws.{terms-laws, fields-laws, methods-laws}
+-- at one position a form stands above a literal, a literal above its lists, a list above its elements and a binder above its terms. The
+-- loop over a term keeps that what is left of it are so many terms further on. Assumes nothing.
+use Rattle.wellformed.specs.Words.{holds}
+use Rattle.wellformed.specs.Ends.{Left}
+use Rattle.wellformed.specs.FormLaws.{form-laws, binder-laws}
+use Rattle.wellformed.specs.ListLaws.{left-laws, fields-laws, methods-laws}
 use Rattle.wellformed.specs.LiteralLaws.{literal-laws}
 use Rattle.wellformed.specs.ScopeLaws.{kept-laws}
+use Rattle.checks.specs.Bound.{Kept}
+use lib.ListN.{length}
 use borrow.Author.Needs.{needs}
-use Prim.Native.Nat.{ℕ, _+_, _*_, _-_, _<_}
+use Prim.Native.Nat.{ℕ, _+_, _*_, _-_, _≤_, _<_}
 use borrow.Fn.Kinds.{In}
 use borrow.Fn.PlainCycle.{Measures, is, falls, and}
 use Rattle.wellformed.proofs.term.fields_from.Reads as fields-from
 use Rattle.wellformed.proofs.term.fields_from.Kinds as fields-from-kinds
-use Rattle.wellformed.proofs.term.+fields_from+future+inside+let_in+literal+methods_from+term+terms.Lts-fields_from as fields-from-lts
+use Rattle.wellformed.proofs.term.+fields_from+form+future+inside+let_in+literal+methods_from+term.Lts-fields_from as fields-from-lts
+use Rattle.wellformed.proofs.term.form.Reads as form
+use Rattle.wellformed.proofs.term.form.Kinds as form-kinds
+use Rattle.wellformed.proofs.term.+fields_from+form+future+inside+let_in+literal+methods_from+term.Lts-form as form-lts
 use Rattle.wellformed.proofs.term.future.Reads as future
 use Rattle.wellformed.proofs.term.future.Kinds as future-kinds
-use Rattle.wellformed.proofs.term.+fields_from+future+inside+let_in+literal+methods_from+term+terms.Lts-future as future-lts
+use Rattle.wellformed.proofs.term.+fields_from+form+future+inside+let_in+literal+methods_from+term.Lts-future as future-lts
 use Rattle.wellformed.proofs.term.inside.Reads as inside
 use Rattle.wellformed.proofs.term.inside.Kinds as inside-kinds
-use Rattle.wellformed.proofs.term.+fields_from+future+inside+let_in+literal+methods_from+term+terms.Lts-inside as inside-lts
+use Rattle.wellformed.proofs.term.+fields_from+form+future+inside+let_in+literal+methods_from+term.Lts-inside as inside-lts
 use Rattle.wellformed.proofs.term.let_in.Reads as let-in
 use Rattle.wellformed.proofs.term.let_in.Kinds as let-in-kinds
-use Rattle.wellformed.proofs.term.+fields_from+future+inside+let_in+literal+methods_from+term+terms.Lts-let_in as let-in-lts
+use Rattle.wellformed.proofs.term.+fields_from+form+future+inside+let_in+literal+methods_from+term.Lts-let_in as let-in-lts
 use Rattle.wellformed.proofs.term.literal.Reads as literal
 use Rattle.wellformed.proofs.term.literal.Kinds as literal-kinds
-use Rattle.wellformed.proofs.term.+fields_from+future+inside+let_in+literal+methods_from+term+terms.Lts-literal as literal-lts
+use Rattle.wellformed.proofs.term.+fields_from+form+future+inside+let_in+literal+methods_from+term.Lts-literal as literal-lts
 use Rattle.wellformed.proofs.term.methods_from.Reads as methods-from
 use Rattle.wellformed.proofs.term.methods_from.Kinds as methods-from-kinds
-use Rattle.wellformed.proofs.term.+fields_from+future+inside+let_in+literal+methods_from+term+terms.Lts-methods_from as methods-from-lts
+use Rattle.wellformed.proofs.term.+fields_from+form+future+inside+let_in+literal+methods_from+term.Lts-methods_from as methods-from-lts
 use Rattle.wellformed.proofs.term.term.Reads as term
 use Rattle.wellformed.proofs.term.term.Kinds as term-kinds
-use Rattle.wellformed.proofs.term.+fields_from+future+inside+let_in+literal+methods_from+term+terms.Lts-term as term-lts
-use Rattle.wellformed.proofs.term.terms.Reads as terms
-use Rattle.wellformed.proofs.term.terms.Kinds as terms-kinds
-use Rattle.wellformed.proofs.term.+fields_from+future+inside+let_in+literal+methods_from+term+terms.Lts-terms as terms-lts
+use Rattle.wellformed.proofs.term.+fields_from+form+future+inside+let_in+literal+methods_from+term.Lts-term as term-lts
 use Rattle.wellformed.proofs.header.are_two.Reads as are-two-reads
-use Rattle.wellformed.proofs.header.arguments.Reads as arguments-reads
 use Rattle.wellformed.proofs.header.field_header.Reads as field-header-reads
 use Rattle.wellformed.proofs.header.is_small.Reads as is-small-reads
 use Rattle.wellformed.proofs.header.method_header.Reads as method-header-reads
 use Rattle.wellformed.proofs.header.noted.Reads as noted-reads
-use Rattle.wellformed.proofs.message_name.Reads as message-name-reads
 use Rattle.wellformed.proofs.scopes.bind.Reads as bind-reads
 use Rattle.wellformed.proofs.scopes.opened.Reads as opened-reads
 use Rattle.wellformed.proofs.scopes.refers.Reads as refers-reads
-use Rattle.wellformed.proofs.scopes.sees.Reads as sees-reads
 use Rattle.wellformed.proofs.scopes.swap.Reads as swap-reads
 use Rattle.wellformed.proofs.scopes.unbind.Reads as unbind-reads
-use Rattle.wellformed.proofs.term.behind.Reads as behind-reads
-use Rattle.wellformed.proofs.value.Reads as value-reads
-use Rattle.wellformed.proofs.word.call_name.Reads as call-name-reads
-use Rattle.wellformed.proofs.word.is_name.Reads as is-name-reads
+use Rattle.wellformed.proofs.term.leaf.Reads as leaf-reads
+use Rattle.wellformed.proofs.term.operands.Reads as operands-reads
 use Rattle.wellformed.proofs.word.is_variable.Reads as is-variable-reads
-use Rattle.wellformed.proofs.term.+fields_from+future+inside+let_in+literal+methods_from+term+terms.{
+use Rattle.wellformed.proofs.term.+fields_from+form+future+inside+let_in+literal+methods_from+term.{
   statement,
 }
-use Rattle.wellformed.proofs.term.+fields_from+future+inside+let_in+literal+methods_from+term+terms.Tie.{
+use Rattle.wellformed.proofs.term.+fields_from+form+future+inside+let_in+literal+methods_from+term.Tie.{
   close,
 }
 
 abbrev μ-fields-from : Measures 3 fields-from-kinds.ps ℕ
 μ-fields-from κs a = 16 * (4096 - a .1 .0) + 1 + a .1 .1 .0
+
+abbrev μ-form : Measures 3 form-kinds.ps ℕ
+μ-form κs a = 16 * (4096 - a .1 .0) + 11
 
 abbrev μ-future : Measures 3 future-kinds.ps ℕ
 μ-future κs a = 16 * (4096 - a .1 .0) + 2
@@ -78,9 +81,6 @@ abbrev μ-methods-from : Measures 3 methods-from-kinds.ps ℕ
 abbrev μ-term : Measures 3 term-kinds.ps ℕ
 μ-term κs a = 16 * (4096 - a .1 .0)
 
-abbrev μ-terms : Measures 3 terms-kinds.ps ℕ
-μ-terms κs a = 16 * (4096 - a .1 .0) + 1 + a .1 .1 .0
-
 abbrev fields-from-at : ℕ → In 3 fields-from-kinds.ps
 fields-from-at t =
     and 3 fields-from-kinds.ps (is 3 fields-from-kinds.ps μ-fields-from t) fields-from.Pre
@@ -88,6 +88,12 @@ fields-from-at t =
 abbrev fields-from-below : ℕ → In 3 fields-from-kinds.ps
 fields-from-below t =
     and 3 fields-from-kinds.ps (falls 3 fields-from-kinds.ps _<_ μ-fields-from t) fields-from.Pre
+
+abbrev form-at : ℕ → In 3 form-kinds.ps
+form-at t = and 3 form-kinds.ps (is 3 form-kinds.ps μ-form t) form.Pre
+
+abbrev form-below : ℕ → In 3 form-kinds.ps
+form-below t = and 3 form-kinds.ps (falls 3 form-kinds.ps _<_ μ-form t) form.Pre
 
 abbrev future-at : ℕ → In 3 future-kinds.ps
 future-at t = and 3 future-kinds.ps (is 3 future-kinds.ps μ-future t) future.Pre
@@ -131,24 +137,25 @@ term-at t = and 3 term-kinds.ps (is 3 term-kinds.ps μ-term t) term.Pre
 abbrev term-below : ℕ → In 3 term-kinds.ps
 term-below t = and 3 term-kinds.ps (falls 3 term-kinds.ps _<_ μ-term t) term.Pre
 
-abbrev terms-at : ℕ → In 3 terms-kinds.ps
-terms-at t = and 3 terms-kinds.ps (is 3 terms-kinds.ps μ-terms t) terms.Pre
+abbrev term-Inv-loop : term-lts.InvT-loop
+term-Inv-loop w at scope₀ kinds e i₀ left₀ scope i left =
+    Left (e .words) (holds (e .refs) kinds (e .actor)) scope₀ (e .level) w at left i × Kept scope₀ scope × (at ≤ i) × (i ≤ 4096) × (left ≤ 8388608 * i + 1)
 
-abbrev terms-below : ℕ → In 3 terms-kinds.ps
-terms-below t = and 3 terms-kinds.ps (falls 3 terms-kinds.ps _<_ μ-terms t) terms.Pre
+abbrev term-μ-loop : term-lts.MeasureT-loop
+term-μ-loop w at scope₀ kinds e i₀ left₀ scope i left = length w - i
 
-pub +fields-from+future+inside+let-in+literal+methods-from+term+terms-spec :
+pub +fields-from+form+future+inside+let-in+literal+methods-from+term-spec :
     {M : Type 1} → statement M
-+fields-from+future+inside+let-in+literal+methods-from+term+terms-spec =
++fields-from+form+future+inside+let-in+literal+methods-from+term-spec =
     close
     μ-fields-from
+    μ-form
     μ-future
     μ-inside
     μ-let-in
     μ-literal
     μ-methods-from
     μ-term
-    μ-terms
     (λ t. fields-from-lts.spec (
       field-header-reads.Asked,
       field-header-reads.Learnt,
@@ -173,6 +180,28 @@ pub +fields-from+future+inside+let-in+literal+methods-from+term+terms-spec :
     (λ c κs. search needs)  -- fields-from-fields-from-requires
     (λ c. (search fields-laws, (search kept-laws, search needs)))  -- fields-from-returns-3
     (λ c. (search fields-laws, (search kept-laws, search needs)))  -- fields-from-returns-4
+    )
+    (λ t. form-lts.spec (
+      let-in-below t,
+      let-in.Post,
+      future-below t,
+      future.Post,
+      literal-below t,
+      literal.Post,
+    )
+    (form-at t)
+    form.Post
+    (λ c κs. search needs)  -- form-let-in-requires
+    (λ c κs. search needs)  -- form-future-requires
+    (λ c κs. search needs)  -- form-literal-requires
+    (λ c κs. search needs)  -- form-literal-requires-2
+    (λ c κs. search needs)  -- form-literal-requires-3
+    (λ c. (search form-laws, (search kept-laws, search needs)))  -- form-returns
+    (λ c. (search form-laws, (search kept-laws, search needs)))  -- form-returns-2
+    (λ c. (search form-laws, (search kept-laws, search needs)))  -- form-returns-3
+    (λ c. (search form-laws, (search kept-laws, search needs)))  -- form-returns-4
+    (λ c. (search form-laws, (search kept-laws, search needs)))  -- form-returns-5
+    (λ c. (search form-laws, (search kept-laws, search needs)))  -- form-returns-6
     )
     (λ t. future-lts.spec
     (are-two-reads.Asked, are-two-reads.Learnt, inside-below t, inside.Post)
@@ -204,15 +233,16 @@ pub +fields-from+future+inside+let-in+literal+methods-from+term+terms-spec :
       is-variable-reads.Learnt,
       term-below t,
       term.Post,
-      inside-below t,
-      inside.Post,
+      swap-reads.Asked,
+      swap-reads.Learnt,
     )
     (let-in-at t)
     let-in.Post
     (λ c κs. search needs)  -- let-in-is-variable-requires
     (λ c κs. search needs)  -- let-in-term-requires
-    (λ c. search needs)  -- let-in-add-inside
-    (λ c κs. search needs)  -- let-in-inside-requires
+    (λ c κs. search binder-laws)  -- let-in-swap-requires
+    (λ c κs. search needs)  -- let-in-term-requires-2
+    (λ c κs. search binder-laws)  -- let-in-swap-requires-2
     (λ c. (search binder-laws, (search kept-laws, search needs)))  -- let-in-returns
     (λ c. (search binder-laws, (search kept-laws, search needs)))  -- let-in-returns-2
     )
@@ -269,84 +299,37 @@ pub +fields-from+future+inside+let-in+literal+methods-from+term+terms-spec :
     (λ c. (search methods-laws, (search kept-laws, search needs)))  -- methods-from-returns-3
     (λ c. (search methods-laws, (search kept-laws, search needs)))  -- methods-from-returns-4
     )
-    (λ t. term-lts.spec (
-      arguments-reads.Asked,
-      arguments-reads.Learnt,
-      sees-reads.Asked,
-      sees-reads.Learnt,
-      behind-reads.Asked,
-      behind-reads.Learnt,
-      terms-below t,
-      terms.Post,
-      is-name-reads.Asked,
-      is-name-reads.Learnt,
-      term-below t,
-      term.Post,
-      let-in-below t,
-      let-in.Post,
-      future-below t,
-      future.Post,
-      call-name-reads.Asked,
-      call-name-reads.Learnt,
-      message-name-reads.Asked,
-      message-name-reads.Learnt,
-      literal-below t,
-      literal.Post,
-      value-reads.Asked,
-      value-reads.Learnt,
+    λ t. term-lts.spec (
+      leaf-reads.Asked,
+      leaf-reads.Learnt,
+      operands-reads.Asked,
+      operands-reads.Learnt,
+      form-below t,
+      form.Post,
     )
     (term-at t)
     term.Post
-    (λ c. (search term-laws, (search kept-laws, search needs)))  -- term-returns
+    term-Inv-loop
+    term-μ-loop
+    (λ c. (search left-laws, search kept-laws, search needs, search needs, search needs))  -- term-loop-holds
+    (λ c. (search left-laws, (search kept-laws, search needs)))  -- term-returns
     (λ c. search needs)  -- term-mul-h
     (λ c. search needs)  -- term-shared-slice-read-h
+    (λ c κs. search needs)  -- term-leaf-requires
     (λ c. search needs)  -- term-add-i
-    (λ c κs. search needs)  -- term-arguments-requires
-    (λ c κs. search needs)  -- term-sees-requires
-    (λ c κs. search needs)  -- term-behind-requires
-    (λ c κs. search needs)  -- term-behind-requires-2
-    (λ c κs. search needs)  -- term-terms-requires
-    (λ c κs. search needs)  -- term-behind-requires-3
-    (λ c κs. search needs)  -- term-terms-requires-2
-    (λ c κs. search needs)  -- term-is-name-requires
-    (λ c κs. search needs)  -- term-behind-requires-4
-    (λ c κs. search needs)  -- term-term-requires
-    (λ c κs. search needs)  -- term-is-name-requires-2
-    (λ c κs. search needs)  -- term-behind-requires-5
-    (λ c κs. search needs)  -- term-terms-requires-3
-    (λ c κs. search needs)  -- term-let-in-requires
-    (λ c κs. search needs)  -- term-future-requires
-    (λ c κs. search needs)  -- term-call-name-requires
-    (λ c κs. search needs)  -- term-behind-requires-6
-    (λ c κs. search needs)  -- term-terms-requires-4
-    (λ c κs. search needs)  -- term-message-name-requires
-    (λ c κs. search needs)  -- term-behind-requires-7
-    (λ c κs. search needs)  -- term-terms-requires-5
-    (λ c κs. search needs)  -- term-literal-requires
-    (λ c κs. search needs)  -- term-literal-requires-2
-    (λ c κs. search needs)  -- term-literal-requires-3
-    (λ c κs. search needs)  -- term-value-requires
-    (λ c κs. search needs)  -- term-behind-requires-8
-    (λ c. (search term-laws, (search kept-laws, search needs)))  -- term-returns-2
-    (λ c. (search term-laws, (search kept-laws, search needs)))  -- term-returns-3
-    (λ c. (search term-laws, (search kept-laws, search needs)))  -- term-returns-4
-    (λ c. (search term-laws, (search kept-laws, search needs)))  -- term-returns-5
-    (λ c. (search term-laws, (search kept-laws, search needs)))  -- term-returns-6
-    (λ c. (search term-laws, (search kept-laws, search needs)))  -- term-returns-7
-    (λ c. (search term-laws, (search kept-laws, search needs)))  -- term-returns-8
-    (λ c. (search term-laws, (search kept-laws, search needs)))  -- term-returns-9
-    (λ c. (search term-laws, (search kept-laws, search needs)))  -- term-returns-10
-    (λ c. (search term-laws, (search kept-laws, search needs)))  -- term-returns-11
-    (λ c. (search term-laws, (search kept-laws, search needs)))  -- term-returns-12
-    (λ c. (search term-laws, (search kept-laws, search needs)))  -- term-returns-13
-    (λ c. (search term-laws, (search kept-laws, search needs)))  -- term-returns-14
-    )
-    λ t. terms-lts.spec
-    (term-below t, term.Post, terms-below t, terms.Post)
-    (terms-at t)
-    terms.Post
-    (λ c. (search terms-laws, (search kept-laws, search needs)))  -- terms-returns
-    (λ c κs. search needs)  -- terms-term-requires
-    (λ c. search needs)  -- terms-sub-terms
-    (λ c κs. search needs)  -- terms-terms-requires
-    (λ c. (search terms-laws, (search kept-laws, search needs)))  -- terms-returns-2
+    (λ c. search needs)  -- term-sub-left
+    (λ c. search needs)  -- term-loop-less
+    (λ c. (search left-laws, search kept-laws, search needs, search needs, search needs))  -- term-loop-again
+    (λ c. (search left-laws, (search kept-laws, search needs)))  -- term-returns-2
+    (λ c κs. search needs)  -- term-operands-requires
+    (λ c. search needs)  -- term-add-i-2
+    (λ c. search needs)  -- term-sub-left-2
+    (λ c. search needs)  -- term-add-left
+    (λ c. search needs)  -- term-loop-less-2
+    (λ c. (search left-laws, search kept-laws, search needs, search needs, search needs))  -- term-loop-again-2
+    (λ c. search needs)  -- term-add-form
+    (λ c κs. (search needs, (search needs, search left-laws)))  -- term-form-requires
+    (λ c. search needs)  -- term-sub-left-3
+    (λ c. search needs)  -- term-loop-less-3
+    (λ c. (search left-laws, search kept-laws, search needs, search needs, search needs))  -- term-loop-again-3
+    (λ c. (search left-laws, (search kept-laws, search needs)))  -- term-returns-3
