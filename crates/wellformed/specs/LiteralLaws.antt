@@ -27,6 +27,7 @@ use Rattle.wellformed.specs.ScopeLaws.{scope-none, scope-bind}
 use Rattle.wellformed.specs.NameLaws.{met-none}
 use Rattle.wellformed.specs.EndLaws.{ends-same, ends-none, ends-pair, ends-pair-none, methods-nowhere}
 use Rattle.wellformed.specs.ShapeLaws.{only-none}
+use Rattle.wellformed.specs.ListLaws.{methods-none}
 
 -- ---- names one after another
 module _ (c : ℕ) (p : Value → Bool) (xs : List ℕ) where
@@ -172,4 +173,7 @@ module _ (c : ℕ) (p : Value → Bool) (w : List ℕ) (n at : ℕ) where
       ∙ ends-same (methodsHold c p) (methodsWell c p (this ∷ []) []) (parseMethods (length w) w n at)
       (λ ms i g. sym (methods-named c p (this ∷ []) ms (omega (arith, methods-sound (length w) w n at ms i g .1))))
 
-pub ruleset laws = (needs, expression-ends, methods-many, methods-held)
+  pub methods-no : n ≡ 0 → at ≡ endOf (methodsHold c p) (parseMethods (length w) w n at)
+  methods-no e = methods-held at (omega arith) (methods-none c p (set (replicate 128 0) 0 1) 1 w 0 n at e)
+
+pub ruleset laws = (needs, expression-ends, methods-no, methods-many, methods-held)

@@ -96,6 +96,9 @@ pub fn methods(
     ensures { λ r. ⌜ r ≡ endOf (methodsHold words (holds refs (now (kinds .entry)) actor)) (parseMethods (length (now (w .entry))) (now (w .entry)) count at) ⌝ }
     ensures { λ r. ⌜ (at ≤ r) × (r ≤ 4096) ⌝ }
 {
+    if count == 0 {
+        return at;
+    }
     if 4 < count {
         return FAIL;
     }

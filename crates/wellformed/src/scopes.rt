@@ -1,6 +1,5 @@
 // Scopes. For each word stands the level at which it is bound. The level is one more in each literal that hides what is around it, so
 // that what is bound at a lower level is out of scope, and no list of words is kept.
-ghost use mathlib.Core.Path.{_≡_};
 ghost use Prim.Native.Nat.{_≤_, _<_};
 ghost use Rattle.checks.specs.Bound.{Swapped};
 ghost use Rattle.wellformed.specs.Ends.{Sees, Bound, Unbound, Opens, Refers};
