@@ -1,4 +1,5 @@
 pub mod Posts
+pub mod Across
 pub mod Follows
 pub mod Followed
 pub mod Arrives
