@@ -1,5 +1,4 @@
 pub mod Posts
-pub mod Across
 pub mod Follows
 pub mod Followed
 pub mod Arrives
