@@ -1,7 +1,5 @@
 // The nodes of a script.
-ghost use mathlib.Core.Path.{_≡_};
 ghost use Prim.Native.Nat.{_+_, _≤_};
-ghost use lib.ListN.{length};
 ghost use Rattle.checks.specs.Size.{NodeOf, Size};
 
 // 1 for a node, 0 for a header.

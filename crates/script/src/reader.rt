@@ -1,8 +1,6 @@
 // Reading a text into its table.
 ghost use mathlib.Core.Path.{_≡_};
-ghost use mathlib.Core.Bool.{Bool};
 ghost use Prim.Native.Nat.{_+_, _≤_, _<_};
-ghost use lib.ListN.{length};
 ghost use Rattle.atlite.specs.Base.{if_then_else_};
 ghost use Rattle.atlite.specs.Answers.{readAnswer};
 ghost use Rattle.layout.specs.Meaning.{readCall};

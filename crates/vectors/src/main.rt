@@ -3,7 +3,6 @@
 //
 // A record is the length of the input in five digits, a space, the length of what is to be written in five digits and the end of the line;
 // then the input, and what is to be written.
-ghost use mathlib.Core.Path.{_≡_};
 ghost use Prim.Native.Nat.{_+_, _≤_};
 ghost use lib.ListN.{length};
 
