@@ -317,6 +317,10 @@ mod tests {
             oracle::run(&mut native, &schedule);
             let found = state(&encode(&native)).expect("a state");
             assert_eq!(oracle::list(&found), oracle::list(&native));
+            // A dictionary that comes out has `apply` last: where a script's has it there too, the states are the same.
+            if usize::from(native.apply.0) + 1 == native.words.len() {
+                assert_eq!(found, native);
+            }
             seen += 1;
         }
     }
