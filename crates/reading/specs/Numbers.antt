@@ -15,21 +15,21 @@ use Rattle.atlite.specs.Printer.{digits, printNumber}
 use Rattle.atlite.specs.Facts.{and₂, both₂}
 
 -- the numbers of at most k digits
-room : ℕ → ℕ
+unfoldable pub room : ℕ → ℕ
 room zero = 1
 room (suc k) = 10 * room k
 
 -- `digits` by its test, which the laws decide
-digits-last : (k n : ℕ) (w : Bytes) → n < 10 → digits (suc k) n w ≡ (48 + n) ∷ w
+pub digits-last : (k n : ℕ) (w : Bytes) → n < 10 → digits (suc k) n w ≡ (48 + n) ∷ w
 unfolding digits
 digits-last k n w h = rw (lt-ltb n 10 h, digits)
 
-digits-more : (k n : ℕ) (w : Bytes) → 10 ≤ n → digits (suc k) n w ≡ digits k (n / 10) ((48 + n % 10) ∷ w)
+pub digits-more : (k n : ℕ) (w : Bytes) → 10 ≤ n → digits (suc k) n w ≡ digits k (n / 10) ((48 + n % 10) ∷ w)
 unfolding digits
 digits-more k n w h = rw (le-ltb n 10 h, digits)
 
 -- either the last digit, or one more after it
-last-or-more : (n : ℕ) (P : Type 0) → (n < 10 → P) → (10 ≤ n → P) → P
+pub last-or-more : (n : ℕ) (P : Type 0) → (n < 10 → P) → (10 ≤ n → P) → P
 last-or-more n P h k = go (ltb n 10) refl
   where
     go : (b : Bool) → ltb n 10 ≡ b → P
