@@ -7,8 +7,7 @@ use borrow.Author.Tests.{lt-ltb, le-ltb, ne-eqb}
 use Rattle.atlite.specs.Term.{this, ·t, ·f, ·r, ·s}
 use Rattle.layout.specs.Pack.{node}
 use Rattle.layout.specs.Terms.{variable}
-use Rattle.printer.specs.Shown.{payload, arity}
-use Rattle.printer.specs.HeadLaws.{arity-header}
+use Rattle.loading.specs.Operands.{payload, arity, arity-header}
 use Rattle.loading.specs.Emitted.{binding, closureWords, askWords, before, after, inner}
 use Rattle.loading.specs.Expands.{Brings}
 

@@ -17,8 +17,7 @@ use Rattle.layout.specs.Fitting.{name-fits}
 use Rattle.layout.specs.TableReads.{variable-named}
 use Rattle.layout.specs.Terms.{countMethods as countBodies, variable, tagged, asked, kindNumber, fieldHeader, methodHeader, encodeTerm, encodeTerms, encodeInits, encodeMethods, encodeValue, countInits}
 use Rattle.layout.specs.Tables.{encodeSrc, encodeSrcs, encodeFields, encodeSrcMethods}
-use Rattle.printer.specs.Shown.{payload, arity}
-use Rattle.printer.specs.HeadLaws.{arity-two, arity-get, arity-pair, arity-future, arity-message, arity-literal}
+use Rattle.loading.specs.Operands.{payload, arity, arity-two, arity-get, arity-pair, arity-future, arity-message, arity-literal}
 use Rattle.printer.specs.Nesting.{nesting, nestingAll, nestingFields, nestingMethods}
 use Rattle.loading.specs.Expanding.{Self, outside, held, itself, selfTerm, closure, expandWith, expandAllWith, expandFieldsWith, expandMethodsWith}
 use Rattle.loading.specs.Emitted.{nullWord, binding, futureWord, objectWord, sendRegister, leafIn, closureWords, askWords, resolverWords, waiterWords}

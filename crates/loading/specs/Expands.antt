@@ -10,7 +10,7 @@ use native.Mathlib.Omega.{arith}
 use borrow.Author.Tests.{lt-ltb, le-ltb, ne-eqb}
 use Rattle.atlite.specs.Term.{·t, ·f, ·r, ·l, ·s}
 use Rattle.layout.specs.Terms.{variable}
-use Rattle.printer.specs.Shown.{payload, arity}
+use Rattle.loading.specs.Operands.{payload, arity}
 use Rattle.loading.specs.Emitted.{binding, sendRegister, wanted, skipped, leafIn, resolverWords, waiterWords, before, after, inner, Words, emits, operandsIn, formIn, resolveIn, whenIn, emitted}
 use Rattle.loading.specs.FormLaws.{skipped-none}
 

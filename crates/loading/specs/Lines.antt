@@ -17,7 +17,7 @@ use Rattle.layout.specs.TermLaws.{kind-small}
 use Rattle.layout.specs.TableReads.{variable-named}
 use Rattle.layout.specs.Terms.{tagged, asked, kindNumber, encodeTerm}
 use Rattle.layout.specs.Tables.{encodeSrc, definitionHeader, encodeLine}
-use Rattle.printer.specs.Shown.{payload}
+use Rattle.loading.specs.Operands.{payload}
 use Rattle.printer.specs.Nesting.{nesting, nestingLine, nestingLines}
 use Rattle.loading.specs.Expanding.{outside, expandWith}
 use Rattle.loading.specs.Emitted.{nullWord, binding, emitted, leadIn, linesIn}

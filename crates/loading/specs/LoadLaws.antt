@@ -35,7 +35,7 @@ use Rattle.layout.specs.Layout.{encodeWord, encode}
 use Rattle.layout.specs.Whole.{words-three}
 use Rattle.layout.specs.Tables.{encodeLine, encodeTable}
 use Rattle.layout.specs.TableFitting.{table-fits}
-use Rattle.printer.specs.Writing.{Wrote, cap, cap-small, cap-large}
+use Rattle.loading.specs.Writing.{Wrote, cap, cap-small, cap-large}
 use Rattle.printer.specs.Nested.{depth-script}
 use Rattle.loading.specs.Expanding.{outside, selfTerm, expandWith, expand-this}
 use Rattle.loading.specs.Emitted.{linesIn}

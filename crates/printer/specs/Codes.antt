@@ -5,7 +5,6 @@ use Prim.Native.Nat.{ℕ, _≤_}
 use lib.ListN.{drop}
 use Rattle.showing.specs.Writing.{most, Wrote}
 use Rattle.printer.specs.Shown.{linesIn}
-pub use Rattle.showing.specs.Codes.{Arity}
 
 -- Of n lines all but the last were written, which begin at i.
 pub record Lined (t : List ℕ) (n : ℕ) (old : List ℕ) (last : ℕ) (new : List ℕ) (i p : ℕ) : Type 0 where

@@ -1,9 +1,6 @@
-pub mod Writing
 pub mod Shown
 pub mod Codes
 pub mod Printed
-pub mod PutLaws
-pub mod HeadLaws
 pub mod ShowLaws
 pub mod Nesting
 pub mod Nested
