@@ -62,43 +62,40 @@ fn singles(case: &Case) -> &[u8] {
     &entries[..entries.len().min(SINGLE)]
 }
 
-/// The proved engine's single calls.
-fn proved_moves(clock: &Clock, case: &Case) -> f64 {
-    clock.time(case.middle.proved.clone(), |s| {
-        for actor in singles(case) {
-            black_box(s.move_actor(*actor).is_ok());
-        }
-    })
+/// The proved engine's single calls beside something else, as many times.
+fn beside_moves(clock: &Clock, case: &Case, other: impl FnMut() -> f64) -> Line {
+    clock.compare(
+        1000.0 * singles(case).len() as f64,
+        || {
+            clock.time(case.middle.proved.clone(), |s| {
+                for actor in singles(case) {
+                    black_box(s.move_actor(*actor).is_ok());
+                }
+            })
+        },
+        other,
+    )
 }
 
 fn moves(clock: &Clock, case: &Case) -> Line {
-    clock.compare(
-        1000.0 * singles(case).len() as f64,
-        || proved_moves(clock, case),
-        || {
-            clock.time(case.middle.plain.clone(), |s| {
-                for actor in singles(case) {
-                    black_box(oracle::step(s, *actor).is_ok());
-                }
-            })
-        },
-    )
+    beside_moves(clock, case, || {
+        clock.time(case.middle.plain.clone(), |s| {
+            for actor in singles(case) {
+                black_box(oracle::step(s, *actor).is_ok());
+            }
+        })
+    })
 }
 
-/// The proved engine's calls beside the test whether the words are a state, with which each of them begins. A run of no entries is that
-/// test and nothing else.
+/// The test whether the words are a state, with which each call begins. A run of no entries is that test and nothing else.
 fn tests(clock: &Clock, case: &Case) -> Line {
-    clock.compare(
-        1000.0 * singles(case).len() as f64,
-        || proved_moves(clock, case),
-        || {
-            clock.time(case.middle.proved.clone(), |s| {
-                for _ in singles(case) {
-                    black_box(s.run(black_box(&[])));
-                }
-            })
-        },
-    )
+    beside_moves(clock, case, || {
+        clock.time(case.middle.proved.clone(), |s| {
+            for _ in singles(case) {
+                black_box(s.run(black_box(&[])));
+            }
+        })
+    })
 }
 
 fn reads(clock: &Clock, case: &Case) -> Line {
