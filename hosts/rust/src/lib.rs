@@ -20,6 +20,7 @@
 //! Two lists of moves end in the same state if in both each actor makes as many moves, each inbox gets its messages from the same senders
 //! in the same order, and actors are created in the same order.
 
+mod calls;
 pub mod lent;
 mod refusal;
 
