@@ -133,19 +133,13 @@ impl Checked {
     pub fn move_actor(&mut self, state: &mut Lent<u32>, native: &mut Option<State>, actor: u8) -> Result<(), Differs> {
         self.note(|| format!("move {actor}, state {}", state.len()));
         let (mut kind, mut other) = (Lent::place(&mut self.rng), Lent::place(&mut self.rng));
-        let want = match native {
-            _ if state.len() < STATE => Err(SHORT),
-            None => Err(NEITHER),
-            Some(native) => {
-                let rule = Rule::of(native, actor);
-                let answer = plain::step(native, actor);
-                if answer.is_ok() {
-                    state.expect(&encode(native));
-                    *self.counts.rules.entry(rule).or_default() += 1;
-                }
-                answer
-            }
-        };
+        let want = held(state, native).and_then(|native| {
+            let rule = Rule::of(native, actor);
+            let answer = plain::step(native, actor)?;
+            state.expect(&encode(native));
+            *self.counts.rules.entry(rule).or_default() += 1;
+            Ok(answer)
+        });
         if let Ok(answer) = want {
             let (of_kind, actor) = numbers(answer);
             kind.expect(&[of_kind]);
@@ -161,19 +155,14 @@ impl Checked {
     pub fn run(&mut self, state: &mut Lent<u32>, native: &mut Option<State>, entries: &[u8]) -> Result<(), Differs> {
         self.note(|| format!("run {entries:?}, state {}", state.len()));
         let (mut moves, mut refusals) = (Lent::place(&mut self.rng), Lent::place(&mut self.rng));
-        let want = match native {
-            _ if state.len() < STATE => Err(SHORT),
-            None => Err(NEITHER),
-            Some(native) => {
-                let (moved, refused) = plain::run(native, entries);
-                state.expect(&encode(native));
-                moves.expect(&[moved]);
-                refusals.expect(&[refused]);
-                self.counts.entries.0 += moved;
-                self.counts.entries.1 += refused;
-                Ok(())
-            }
-        };
+        let want = held(state, native).map(|native| {
+            let (moved, refused) = plain::run(native, entries);
+            state.expect(&encode(native));
+            moves.expect(&[moved]);
+            refusals.expect(&[refused]);
+            self.counts.entries.0 += moved;
+            self.counts.entries.1 += refused;
+        });
         let entries = Lent::of(&mut self.rng, entries);
         let got = engine::run(state, &entries, &mut moves, &mut refusals);
         self.answered(Call::Run, got, want)?;
@@ -207,6 +196,14 @@ impl Checked {
         self.place("length", &length)?;
         Ok(got)
     }
+}
+
+/// The state that moves with the words, if they are long enough and one.
+fn held<'s>(words: &Lent<u32>, native: &'s mut Option<State>) -> Result<&'s mut State, u8> {
+    if words.len() < STATE {
+        return Err(SHORT);
+    }
+    native.as_mut().ok_or(NEITHER)
 }
 
 /// What a call that writes a text has to do: no text where the words are none.
