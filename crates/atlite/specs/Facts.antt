@@ -95,11 +95,6 @@ get-past [] n h = refl
 get-past (x ∷ l) zero h = absurd (omega arith)
 get-past (x ∷ l) (suc n) h = get-past l n (omega arith)
 
-pub get-some : {X : Type 0} (l : List X) (n : ℕ) → n < length l → (x : X) × (getElem? l n ≡ some x)
-get-some [] n h = absurd (omega arith)
-get-some (x ∷ l) zero h = (x, refl)
-get-some (x ∷ l) (suc n) h = get-some l n (omega arith)
-
 -- ---- results
 pub refused-done : {X : Type 0} {n : ℕ} {x : X} → _≡_ {A = Result X} (refused n) (done x) → ⊥
 refused-done {n} {x} h = let z : _≡_ {A = ℕ} 0 1 = cc in omega arith

@@ -4,10 +4,10 @@ use mathlib.Core.List.{List, [], _∷_, _++_, map}
 use mathlib.Core.Option.{Option, none, some}
 use lib.ListN.{length}
 use Rattle.atlite.specs.Base.{bytes}
-use Rattle.atlite.specs.Term.{Series, made, copied, Value, null, num, ref, Name, plain, twoWay, resolve, register, Term, val, var, plus, percent, get, set, call, send, letIn, future, literal, Terms, nil, cons, Inits, noField, field, Methods, noMethod, method}
+use Rattle.atlite.specs.Term.{Series, made, copied, Value, null, num, ref, Term, val, var, op, letIn, future, literal, Terms, nil, cons, Inits, noField, field, Methods, noMethod, method}
 use Rattle.atlite.specs.State.{Message, message, Field, Tag, O, I, Entity, object, resolver, Actor, State}
 use Rattle.atlite.specs.Lexicon.{Bytes}
-use Rattle.atlite.specs.Printer.{Printer, printNumber, printWord, printKind, form}
+use Rattle.atlite.specs.Printer.{Printer, printNumber, printWord, printKind, printName, opWord, opNames, placed, form}
 
 unfoldable pub printSeries : Series → Bytes
 printSeries made = bytes "m"
@@ -18,22 +18,11 @@ printValue null = bytes "null"
 printValue (num n) = printNumber n
 printValue (ref a s n) = form (bytes "ref" ∷ printNumber a ∷ printSeries s ∷ printNumber n ∷ [])
 
-unfoldable pub printName : List Bytes → Name → Bytes
-printName ws (plain m) = printWord ws m
-printName ws (twoWay m) = printWord ws m ++ bytes ".f"
-printName ws resolve = bytes ".resolve"
-printName ws register = bytes ".register"
-
 unfoldable mutual
   pub printTerm : List Bytes → Term → Bytes
   printTerm ws (val v) = printValue v
   printTerm ws (var x) = printWord ws x
-  printTerm ws (plus a b) = form (bytes "plus" ∷ printTerm ws a ∷ printTerm ws b ∷ [])
-  printTerm ws (percent a b) = form (bytes "percent" ∷ printTerm ws a ∷ printTerm ws b ∷ [])
-  printTerm ws (get e f) = form (bytes "get" ∷ printTerm ws e ∷ printWord ws f ∷ [])
-  printTerm ws (set e f d) = form (bytes "set" ∷ printTerm ws e ∷ printWord ws f ∷ printTerm ws d ∷ [])
-  printTerm ws (call e m es) = form (bytes "call" ∷ printTerm ws e ∷ printName ws m ∷ printTerms ws es)
-  printTerm ws (send e m es) = form (bytes "send" ∷ printTerm ws e ∷ printName ws m ∷ printTerms ws es)
+  printTerm ws (op o es) = form (opWord o ∷ placed (opNames ws o) (printTerms ws es))
   printTerm ws (letIn x e d) = form (bytes "let" ∷ printWord ws x ∷ printTerm ws e ∷ printTerm ws d ∷ [])
   printTerm ws (future x y e) = form (bytes "future" ∷ printWord ws x ∷ printWord ws y ∷ printTerm ws e ∷ [])
   printTerm ws (literal k fs ms) = form (printKind k ∷ (printInits ws fs ++ printMethods ws ms))
@@ -96,5 +85,5 @@ unfoldable pub listing : State → Bytes
 listing σ = printActors (σ .words) 0 (σ .actors)
 
 unfoldable pub Listing : Unit {0}
-unfolding Printer printSeries printValue printName printTerm printField printMessage printTag printState line printEntity printEntities printInbox printActor printActors listing
+unfolding Printer printSeries printValue printTerm printField printMessage printTag printState line printEntity printEntities printInbox printActor printActors listing
 Listing = tt

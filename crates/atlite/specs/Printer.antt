@@ -6,9 +6,9 @@ use mathlib.Core.List.{List, [], _∷_, _++_, map}
 use lib.ListN.{getD}
 use lib.Dec.{ltb}
 use Rattle.atlite.specs.Base.{if_then_else_, bytes}
-use Rattle.atlite.specs.Term.{firstWord, Kind}
+use Rattle.atlite.specs.Term.{firstWord, Name, plain, twoWay, Op, plus, percent, get, set, call, send, Shape, exactly, onField, calling, sending, shape, Kind}
 use Rattle.atlite.specs.Lexicon.{Bytes}
-use Rattle.atlite.specs.Script.{Src, num, null, var, plus, percent, get, set, call, send, ask, letIn, future, fn, resolve, when, seq, literal, Srcs, nil, cons, SrcFields, noField, field, SrcMethods, noMethod, method, Line, expression, define}
+use Rattle.atlite.specs.Script.{SrcOp, kept, ask, resolve, seq, srcShape, Src, num, null, var, op, letIn, future, fn, when, literal, Srcs, nil, cons, SrcFields, noField, field, SrcMethods, noMethod, method, Line, expression, define}
 
 -- the digits of n before the bytes w, at most k of them
 unfoldable pub digits : ℕ → ℕ → Bytes → Bytes
@@ -41,24 +41,56 @@ printKind Kind.object = bytes "object"
 printKind Kind.isolate = bytes "isolate"
 printKind Kind.actor = bytes "actor"
 
+unfoldable pub printName : List Bytes → Name → Bytes
+printName ws (plain m) = printWord ws m
+printName ws (twoWay m) = printWord ws m ++ bytes ".f"
+printName ws Name.resolve = bytes ".resolve"
+printName ws Name.register = bytes ".register"
+
+-- what an operator names, as an item
+abbrev pub labelled : {N : Type 0} → (ℕ → Bytes) → (N → Bytes) → Shape N → List Bytes
+labelled f m (exactly k) = []
+labelled f m (onField x k) = f x ∷ []
+labelled f m (calling x) = m x ∷ []
+labelled f m (sending x) = m x ∷ []
+
+-- an operator's word, and its name
+unfoldable pub opWord : {N : Type 0} → Op N → Bytes
+opWord plus = bytes "plus"
+opWord percent = bytes "percent"
+opWord (get f) = bytes "get"
+opWord (set f) = bytes "set"
+opWord (call m) = bytes "call"
+opWord (send m) = bytes "send"
+
+unfoldable pub opNames : List Bytes → Op Name → List Bytes
+opNames ws o = labelled (printWord ws) (printName ws) (shape o)
+
+unfoldable pub srcWord : SrcOp → Bytes
+unfolding opWord
+srcWord (kept o) = opWord o
+srcWord (ask m) = bytes "ask"
+srcWord resolve = bytes "resolve"
+srcWord seq = bytes "seq"
+
+unfoldable pub srcNames : List Bytes → SrcOp → List Bytes
+srcNames ws o = labelled (printWord ws) (printWord ws) (srcShape o)
+
+-- the operands as items, with the name behind the first of them
+unfoldable pub placed : List Bytes → List Bytes → List Bytes
+placed ns [] = ns
+placed ns (e ∷ es) = e ∷ (ns ++ es)
+
 unfoldable mutual
   pub print : List Bytes → Src → Bytes
   print ws (num n) = printNumber n
   print ws null = bytes "null"
   print ws (var x) = printWord ws x
-  print ws (plus a b) = form (bytes "plus" ∷ print ws a ∷ print ws b ∷ [])
-  print ws (percent a b) = form (bytes "percent" ∷ print ws a ∷ print ws b ∷ [])
-  print ws (get e f) = form (bytes "get" ∷ print ws e ∷ printWord ws f ∷ [])
-  print ws (set e f d) = form (bytes "set" ∷ print ws e ∷ printWord ws f ∷ print ws d ∷ [])
-  print ws (call e m es) = form (bytes "call" ∷ print ws e ∷ printWord ws m ∷ printAll ws es)
-  print ws (send e m es) = form (bytes "send" ∷ print ws e ∷ printWord ws m ∷ printAll ws es)
-  print ws (ask e m es) = form (bytes "ask" ∷ print ws e ∷ printWord ws m ∷ printAll ws es)
+  print ws (op o es) = form (srcWord o ∷ placed (srcNames ws o) (printAll ws es))
   print ws (letIn x e d) = form (bytes "let" ∷ printWord ws x ∷ print ws e ∷ print ws d ∷ [])
   print ws (future x y e) = form (bytes "future" ∷ printWord ws x ∷ printWord ws y ∷ print ws e ∷ [])
   print ws (fn x e) = form (bytes "fn" ∷ printWord ws x ∷ print ws e ∷ [])
-  print ws (resolve e d) = form (bytes "resolve" ∷ print ws e ∷ print ws d ∷ [])
   print ws (when e x d) = form (bytes "when" ∷ print ws e ∷ printWord ws x ∷ print ws d ∷ [])
-  print ws (seq a b) = form (bytes "seq" ∷ print ws a ∷ print ws b ∷ [])
   print ws (literal k fs ms) = form (printKind k ∷ (printFields ws fs ++ printMethods ws ms))
 
   pub printAll : List Bytes → Srcs → List Bytes
@@ -82,5 +114,5 @@ printScript ws [] = []
 printScript ws (l ∷ ls) = printLine ws l ++ printScript ws ls
 
 unfoldable pub Printer : Unit {0}
-unfolding digits printNumber printItems form known printWord printKind print printLine printScript
+unfolding digits printNumber printItems form known printWord printKind printName opWord opNames srcWord srcNames placed print printLine printScript
 Printer = tt

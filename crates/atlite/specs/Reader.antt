@@ -9,10 +9,9 @@ use mathlib.Core.Option.{Option, none, some}
 use lib.ListN.{length}
 use lib.Dec.{eqb}
 use Rattle.atlite.specs.Base.{Result, done, refused, _>>=_, _>>_, orRefuse, require, if_then_else_, bytes, sameBytes}
-use Rattle.atlite.specs.Term.{this, Kind}
+use Rattle.atlite.specs.Term.{this, plus, percent, get, set, call, send, Shape, exactly, onField, calling, sending, Kind}
 use Rattle.atlite.specs.Lexicon.{Bytes, open′, close, space, newline, inWord, isWord, decimal, isNumber, dictionary, numberOf}
-use Rattle.atlite.specs.Script.{Src, Srcs, nil, cons, SrcFields, noField, field, SrcMethods, noMethod, method, Line, expression, define}
-use Rattle.atlite.specs.Printer.{printKind}
+use Rattle.atlite.specs.Script.{SrcOp, kept, ask, resolve, seq, srcShape, Src, Srcs, nil, cons, SrcFields, noField, field, SrcMethods, noMethod, method, Line, expression, define}
 
 -- how many brackets are open at once at most: n are open, and m were at most so far
 unfoldable pub depthFrom : ℕ → ℕ → Bytes → ℕ
@@ -78,8 +77,26 @@ readItems end more R (suc k) i = elim (after (close ∷ []) i) [
     done (more a l, i₂))
 ]
 
-unfoldable pub readArgs : Reading Src → Reading Srcs
-readArgs R i = readItems nil cons R 3 i
+-- k operands, at most n more, then the closing bracket
+unfoldable pub readOperands : Reading Src → ℕ → ℕ → Reading Srcs
+readOperands R zero n i = readItems nil cons R n i
+readOperands R (suc k) n i = do
+  (e, i₁) ← spaced R i
+  (es, i₂) ← readOperands R k n i₁
+  done (cons e es, i₂)
+
+-- how many operands there must be, and how many may follow: of arguments 3
+abbrev pub least : Shape ℕ → ℕ
+least (exactly k) = k
+least (onField f k) = k
+least (calling m) = 1
+least (sending m) = 1
+
+abbrev pub more : Shape ℕ → ℕ
+more (exactly k) = 0
+more (onField f k) = 0
+more (calling m) = 3
+more (sending m) = 3
 
 unfoldable pub readParams : List Bytes → Reading (List ℕ)
 readParams ws i = readItems [] _∷_ (readWord ws) 2 i
@@ -125,75 +142,51 @@ readMethods ws R (suc k) i = elim (after (bytes " (method ") i) [
     done (method m xs e ms, i₆))
 ]
 
+-- What an operator's word begins: operands alone; an operand, a name, and the other operands; or the parts of a form of its own.
 pub data Operator : Type 0 where
-  plus percent get set call send ask letIn future fn resolve when seq : Operator
+  bare : SrcOp → Operator
+  naming : (ℕ → SrcOp) → Operator
+  letIn future fn when : Operator
   literal : Kind → Operator
 
-unfoldable pub spelling : Operator → Bytes
-spelling plus = bytes "plus"
-spelling percent = bytes "percent"
-spelling get = bytes "get"
-spelling set = bytes "set"
-spelling call = bytes "call"
-spelling send = bytes "send"
-spelling ask = bytes "ask"
-spelling letIn = bytes "let"
-spelling future = bytes "future"
-spelling fn = bytes "fn"
-spelling resolve = bytes "resolve"
-spelling when = bytes "when"
-spelling seq = bytes "seq"
-spelling (literal k) = printKind k
-
-unfoldable pub operators : List Operator
+-- the operators' words, in the grammar's order
+unfoldable pub operators : List (Bytes × Operator)
 operators =
-    plus ∷ percent ∷ get ∷ set ∷ call ∷ send ∷ ask ∷ letIn ∷ future ∷ fn ∷ resolve ∷ when ∷ seq
-    ∷ literal Kind.object ∷ literal Kind.isolate ∷ literal Kind.actor ∷ []
+    (bytes "plus", bare (kept plus))
+    ∷ (bytes "percent", bare (kept percent))
+    ∷ (bytes "get", naming (λ f. kept (get f)))
+    ∷ (bytes "set", naming (λ f. kept (set f)))
+    ∷ (bytes "call", naming (λ m. kept (call m)))
+    ∷ (bytes "send", naming (λ m. kept (send m)))
+    ∷ (bytes "ask", naming ask)
+    ∷ (bytes "let", letIn)
+    ∷ (bytes "future", future)
+    ∷ (bytes "fn", fn)
+    ∷ (bytes "resolve", bare resolve)
+    ∷ (bytes "when", when)
+    ∷ (bytes "seq", bare seq)
+    ∷ (bytes "object", literal Kind.object)
+    ∷ (bytes "isolate", literal Kind.isolate)
+    ∷ (bytes "actor", literal Kind.actor)
+    ∷ []
 
-unfoldable pub spelled : List Operator → Bytes → Option Operator
+unfoldable pub spelled : List (Bytes × Operator) → Bytes → Option Operator
 spelled [] w = none
-spelled (o ∷ os) w = if sameBytes (spelling o) w then some o else spelled os w
+spelled (r ∷ rs) w = if sameBytes (r .0) w then some (r .1) else spelled rs w
 
 unfoldable pub operator : Bytes → Option Operator
 operator w = spelled operators w
 
--- Behind the operator, to the closing bracket: two expressions; an expression, a word and an expression; an expression, a
--- word and arguments.
-unfoldable pub readTwo : (Src → Src → Src) → Reading Src → Reading Src
-readTwo c R i = do
-  (e, i₁) ← spaced R i
-  (d, i₂) ← spaced R i₁
-  i₃ ← eat close i₂
-  done (c e d, i₃)
-
-unfoldable pub readBetween : (Src → ℕ → Src → Src) → List Bytes → Reading Src → Reading Src
-readBetween c ws R i = do
+-- what stands behind an operator's word, to the closing bracket; a name stands behind the first operand
+unfoldable pub readForm : Operator → List Bytes → Reading Src → Reading Src
+readForm (bare o) ws R i = do
+  (es, i₁) ← readOperands R (least (srcShape o)) (more (srcShape o)) i
+  done (Src.op o es, i₁)
+readForm (naming c) ws R i = do
   (e, i₁) ← spaced R i
   (x, i₂) ← spacedWord ws i₁
-  (d, i₃) ← spaced R i₂
-  i₄ ← eat close i₃
-  done (c e x d, i₄)
-
-unfoldable pub readMessage : (Src → ℕ → Srcs → Src) → List Bytes → Reading Src → Reading Src
-readMessage c ws R i = do
-  (e, i₁) ← spaced R i
-  (m, i₂) ← spacedWord ws i₁
-  (es, i₃) ← readArgs R i₂
-  done (c e m es, i₃)
-
--- what stands behind an operator, to the closing bracket
-unfoldable pub readForm : Operator → List Bytes → Reading Src → Reading Src
-readForm plus ws R i = readTwo Src.plus R i
-readForm percent ws R i = readTwo Src.percent R i
-readForm get ws R i = do
-  (e, i₁) ← spaced R i
-  (f, i₂) ← spacedWord ws i₁
-  i₃ ← eat close i₂
-  done (Src.get e f, i₃)
-readForm set ws R i = readBetween Src.set ws R i
-readForm call ws R i = readMessage Src.call ws R i
-readForm send ws R i = readMessage Src.send ws R i
-readForm ask ws R i = readMessage Src.ask ws R i
+  (es, i₃) ← readOperands R (least (srcShape (c x)) - 1) (more (srcShape (c x))) i₂
+  done (Src.op (c x) (cons e es), i₃)
 readForm letIn ws R i = do
   (x, i₁) ← spacedWord ws i
   (e, i₂) ← spaced R i₁
@@ -211,9 +204,12 @@ readForm fn ws R i = do
   (e, i₂) ← spaced R i₁
   i₃ ← eat close i₂
   done (Src.fn x e, i₃)
-readForm resolve ws R i = readTwo Src.resolve R i
-readForm when ws R i = readBetween Src.when ws R i
-readForm seq ws R i = readTwo Src.seq R i
+readForm when ws R i = do
+  (e, i₁) ← spaced R i
+  (x, i₂) ← spacedWord ws i₁
+  (d, i₃) ← spaced R i₂
+  i₄ ← eat close i₃
+  done (Src.when e x d, i₄)
 readForm (literal k) ws R i = do
   (fs, i₁) ← readFields ws R 4 i
   (ms, i₂) ← readMethods ws R 4 i₁
@@ -258,5 +254,5 @@ unfoldable pub readScript : Bytes → Result (List Line)
 readScript t = readLines (length t + 1) (dictionary t) t
 
 unfoldable pub Reader : Unit {0}
-unfolding depthFrom depth item eat after atom readAtom readWord spaced spacedWord readItems readArgs readParams readNames readHead readFields readMethods spelling operators spelled operator readTwo readBetween readMessage readForm readExpr readDefinition readLine readLines readScript
+unfolding depthFrom depth item eat after atom readAtom readWord spaced spacedWord readItems readOperands readParams readNames readHead readFields readMethods operators spelled operator readForm readExpr readDefinition readLine readLines readScript
 Reader = tt

@@ -6,7 +6,7 @@ use mathlib.Core.List.{List, [], _∷_, _++_}
 use lib.Dec.{eqb}
 use Rattle.atlite.specs.Base.{member, distinct}
 use Rattle.atlite.specs.Term.{this, seen}
-use Rattle.atlite.specs.Script.{Src, num, null, var, plus, percent, get, set, call, send, ask, letIn, future, fn, resolve, when, seq, literal, Srcs, nil, cons, SrcFields, noField, field, SrcMethods, noMethod, method}
+use Rattle.atlite.specs.Script.{Src, num, null, var, op, letIn, future, fn, when, literal, Srcs, nil, cons, SrcFields, noField, field, SrcMethods, noMethod, method}
 
 -- Under the words xs every variable is bound; `this` needs no binder.
 unfoldable mutual
@@ -14,19 +14,11 @@ unfoldable mutual
   bound xs (num n) = true
   bound xs null = true
   bound xs (var x) = member x (this ∷ xs)
-  bound xs (plus a b) = bound xs a && bound xs b
-  bound xs (percent a b) = bound xs a && bound xs b
-  bound xs (get e f) = bound xs e
-  bound xs (set e f d) = bound xs e && bound xs d
-  bound xs (call e m es) = bound xs e && boundAll xs es
-  bound xs (send e m es) = bound xs e && boundAll xs es
-  bound xs (ask e m es) = bound xs e && boundAll xs es
+  bound xs (op o es) = boundAll xs es
   bound xs (letIn x e d) = bound xs e && bound (x ∷ xs) d
   bound xs (future x y e) = bound (x ∷ y ∷ xs) e
   bound xs (fn x e) = bound (x ∷ xs) e
-  bound xs (resolve e d) = bound xs e && bound xs d
   bound xs (when e x d) = bound xs e && bound (x ∷ xs) d
-  bound xs (seq a b) = bound xs a && bound xs b
   bound xs (literal k fs ms) = boundFields (seen k xs) fs && boundMethods (seen k xs) ms
 
   pub boundAll : List ℕ → Srcs → Bool
@@ -55,19 +47,11 @@ unfoldable mutual
   single (num n) = true
   single null = true
   single (var x) = true
-  single (plus a b) = single a && single b
-  single (percent a b) = single a && single b
-  single (get e f) = single e
-  single (set e f d) = single e && single d
-  single (call e m es) = single e && singleAll es
-  single (send e m es) = single e && singleAll es
-  single (ask e m es) = single e && singleAll es
+  single (op o es) = singleAll es
   single (letIn x e d) = single e && single d
   single (future x y e) = not (eqb x y) && single e
   single (fn x e) = single e
-  single (resolve e d) = single e && single d
   single (when e x d) = single e && single d
-  single (seq a b) = single a && single b
   single (literal k fs ms) = distinct (fieldNames fs) && distinct (methodNames ms) && singleFields fs && singleMethods ms
 
   pub singleAll : Srcs → Bool

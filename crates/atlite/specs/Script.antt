@@ -1,9 +1,21 @@
 -- A script as it is written: its expressions and lines before anything is expanded, their nodes, and the one expression that
 -- the lines mean together. Names are word numbers, so a script is read with a dictionary beside it. Assumes nothing.
-use Prim.Native.Nat.{ℕ, _+_}
+use Prim.Native.Nat.{ℕ, suc, _+_}
 use mathlib.Core.List.{List, [], _∷_}
 use Rattle.atlite.specs.Base.{Result, done, refused, _>>=_}
-use Rattle.atlite.specs.Term.{Kind}
+use Rattle.atlite.specs.Term.{Op, Shape, exactly, sending, shape, Kind}
+
+-- The operators of a script: those that expansion keeps, and abbreviations. fn and when bind a word, so they are forms of their own.
+pub data SrcOp : Type 0 where
+  kept : Op ℕ → SrcOp
+  ask : ℕ → SrcOp
+  resolve seq : SrcOp
+
+abbrev pub srcShape : SrcOp → Shape ℕ
+srcShape (kept o) = shape o
+srcShape (ask m) = sending m
+srcShape resolve = exactly 2
+srcShape seq = exactly 2
 
 mutual
   pub data Src : Type 0 where
@@ -11,16 +23,11 @@ mutual
     null : Src
     -- a variable, or `this`
     var : ℕ → Src
-    plus percent : Src → Src → Src
-    get : Src → ℕ → Src
-    set : Src → ℕ → Src → Src
-    call send ask : Src → ℕ → Srcs → Src
+    op : SrcOp → Srcs → Src
     letIn : ℕ → Src → Src → Src
     future : ℕ → ℕ → Src → Src
     fn : ℕ → Src → Src
-    resolve : Src → Src → Src
     when : Src → ℕ → Src → Src
-    seq : Src → Src → Src
     literal : Kind → SrcFields → SrcMethods → Src
 
   pub data Srcs : Type 0 where
@@ -40,25 +47,21 @@ pub data Line : Type 0 where
   expression : Src → Line
   define : ℕ → Src → Line
 
+unfoldable pub countSrcs : Srcs → ℕ
+countSrcs nil = 0
+countSrcs (cons e es) = suc (countSrcs es)
+
 -- nodes, counted as in a term
 unfoldable mutual
   pub size : Src → ℕ
   size (num n) = 1
   size null = 1
   size (var x) = 1
-  size (plus a b) = 1 + (size a + size b)
-  size (percent a b) = 1 + (size a + size b)
-  size (get e f) = 1 + size e
-  size (set e f d) = 1 + (size e + size d)
-  size (call e m es) = 1 + (size e + sizeAll es)
-  size (send e m es) = 1 + (size e + sizeAll es)
-  size (ask e m es) = 1 + (size e + sizeAll es)
+  size (op o es) = 1 + sizeAll es
   size (letIn x e d) = 1 + (size e + size d)
   size (future x y e) = 1 + size e
   size (fn x e) = 1 + size e
-  size (resolve e d) = 1 + (size e + size d)
   size (when e x d) = 1 + (size e + size d)
-  size (seq a b) = 1 + (size a + size b)
   size (literal k fs ms) = 1 + (sizeFields fs + sizeMethods ms)
 
   pub sizeAll : Srcs → ℕ
@@ -78,9 +81,9 @@ unfoldable pub join : List Line → Result Src
 join [] = refused 2
 join (expression e ∷ []) = done e
 join (define x e ∷ []) = refused 2
-join (expression e ∷ l ∷ ls) = join (l ∷ ls) >>= λ d. done (seq e d)
+join (expression e ∷ l ∷ ls) = join (l ∷ ls) >>= λ d. done (op seq (cons e (cons d nil)))
 join (define x e ∷ l ∷ ls) = join (l ∷ ls) >>= λ d. done (letIn x e d)
 
 unfoldable pub Script : Unit {0}
-unfolding size join
+unfolding countSrcs size join
 Script = tt

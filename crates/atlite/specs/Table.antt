@@ -1,19 +1,19 @@
 -- Reading a text into its table, the first cause from 1 to 5 that refuses it, and which words and lines are a table: those
 -- that the reader gives for some text, stated without a reader. Assumes nothing.
 use Prim.Native.Nat.{ℕ, suc, _≤_, _<_}
-use mathlib.Core.Bool.{true, _&&_, _||_}
+use mathlib.Core.Bool.{Bool, true, _&&_, _||_}
 use mathlib.Core.List.{List, [], _∷_}
 use mathlib.Core.Path.{_≡_}
 use lib.ListN.{length}
 use lib.Dec.{eqb, leb, ltb}
 use Rattle.atlite.specs.Base.{Result, done, _>>=_, _>>_, require, all}
-use Rattle.atlite.specs.Term.{this, top}
+use Rattle.atlite.specs.Term.{this, top, plain, send, written}
 use Rattle.atlite.specs.Lexicon.{Bytes, wordsOf, dictionary}
-use Rattle.atlite.specs.Script.{Src, num, null, var, plus, percent, get, set, call, send, ask, letIn, future, fn, resolve, when, seq, literal, Srcs, nil, cons, SrcFields, noField, field, SrcMethods, noMethod, method, Line, expression, define, size, join}
+use Rattle.atlite.specs.Script.{SrcOp, kept, ask, resolve, seq, Src, num, null, var, op, letIn, future, fn, when, literal, Srcs, nil, cons, SrcFields, noField, field, SrcMethods, noMethod, method, Line, expression, define, countSrcs, size, join}
 use Rattle.atlite.specs.Printer.{printScript}
 use Rattle.atlite.specs.Scope.{bound, single}
 use Rattle.atlite.specs.Reader.{depth, readScript}
-use Rattle.atlite.specs.Valid.{isName}
+use Rattle.atlite.specs.Valid.{isName, operable}
 
 -- the dictionary and the lines of an accepted text
 pub record Table : Type 0 where
@@ -34,10 +34,6 @@ read t = do
 unfoldable pub textOf : Table → Bytes
 textOf T = printScript (T .words) (T .lines)
 
-unfoldable pub countSrcs : Srcs → ℕ
-countSrcs nil = 0
-countSrcs (cons e es) = suc (countSrcs es)
-
 unfoldable pub countFields : SrcFields → ℕ
 countFields noField = 0
 countFields (field f e fs) = suc (countFields fs)
@@ -50,25 +46,24 @@ countMethods (method m xs e ms) = suc (countMethods ms)
 abbrev pub Named : ℕ → ℕ → Type 0
 Named w x = isName w x ≡ true
 
+-- a script's operator with n operands, under a dictionary of w words
+abbrev pub writable : ℕ → SrcOp → ℕ → Bool
+writable w (kept o) n = operable w (written o) n
+writable w (ask m) n = operable w (send (plain m)) n
+writable w resolve n = eqb n 2
+writable w seq n = eqb n 2
+
 -- Of the grammar, under a dictionary of w words: names are words of it, numbers and lists are in range.
 unfoldable mutual
   pub Grammatical : ℕ → Src → Type 0
   Grammatical w (num n) = n ≤ top
   Grammatical w null = Unit {0}
   Grammatical w (var x) = (eqb x this || isName w x) ≡ true
-  Grammatical w (plus a b) = Grammatical w a × Grammatical w b
-  Grammatical w (percent a b) = Grammatical w a × Grammatical w b
-  Grammatical w (get e f) = Grammatical w e × Named w f
-  Grammatical w (set e f d) = Grammatical w e × Named w f × Grammatical w d
-  Grammatical w (call e m es) = Grammatical w e × Named w m × (countSrcs es ≤ 3) × GrammaticalAll w es
-  Grammatical w (send e m es) = Grammatical w e × Named w m × (countSrcs es ≤ 3) × GrammaticalAll w es
-  Grammatical w (ask e m es) = Grammatical w e × Named w m × (countSrcs es ≤ 3) × GrammaticalAll w es
+  Grammatical w (op o es) = (writable w o (countSrcs es) ≡ true) × GrammaticalAll w es
   Grammatical w (letIn x e d) = Named w x × Grammatical w e × Grammatical w d
   Grammatical w (future x y e) = Named w x × Named w y × Grammatical w e
   Grammatical w (fn x e) = Named w x × Grammatical w e
-  Grammatical w (resolve e d) = Grammatical w e × Grammatical w d
   Grammatical w (when e x d) = Grammatical w e × Named w x × Grammatical w d
-  Grammatical w (seq a b) = Grammatical w a × Grammatical w b
   Grammatical w (literal k fs ms) = (countFields fs ≤ 4) × GrammaticalFields w fs × (countMethods ms ≤ 4) × GrammaticalMethods w ms
 
   pub GrammaticalAll : ℕ → Srcs → Type 0
@@ -108,5 +103,5 @@ pub record IsTable (T : Table) : Type 0 where
   pub nodes : size script ≤ 512
 
 unfoldable pub Table·all : Unit {0}
-unfolding read textOf countSrcs countFields countMethods Grammatical GrammaticalLines
+unfolding read textOf countFields countMethods Grammatical GrammaticalLines
 Table·all = tt

@@ -9,10 +9,10 @@ use mathlib.Core.Option.{Option, none, some}
 use lib.ListN.{length}
 use lib.Dec.{eqb, leb, ltb}
 use Rattle.atlite.specs.Base.{member, all}
-use Rattle.atlite.specs.Term.{this, top, made, Value, null, num, ref, Kind, isolate, actor, Term, val, var, plus, percent, get, set, call, send, letIn, literal, Terms, nil, cons, Inits, noField, Methods, noMethod, method, countTerms, initNames, methodNames, seen}
+use Rattle.atlite.specs.Term.{this, top, made, Value, null, num, ref, Kind, isolate, actor, Term, val, var, op, letIn, literal, Terms, nil, cons, Inits, noField, Methods, noMethod, method, countTerms, initNames, methodNames, seen}
 use Rattle.atlite.specs.State.{Message, message, Field, field, Tag, O, I, Entity, object, future, resolver, Actor, State, entityAt, isFuture, isIsolate, fieldNames, sameValue}
 use Rattle.atlite.specs.Limits.{full, withinLimits}
-use Rattle.atlite.specs.Valid.{isName, isVariable, namesWithin, parameters, sendable, callable, wordsHold, unreferring}
+use Rattle.atlite.specs.Valid.{isVariable, namesWithin, parameters, sendable, operable, wordsHold, unreferring}
 
 unfoldable pub held : Kind → (Value → Bool) → Value → Bool
 held Kind.object p = p
@@ -23,12 +23,7 @@ unfoldable mutual
   pub wellFormed : ℕ → (Value → Bool) → List ℕ → Term → Bool
   wellFormed w p xs (val v) = p v
   wellFormed w p xs (var x) = member x xs
-  wellFormed w p xs (plus a b) = wellFormed w p xs a && wellFormed w p xs b
-  wellFormed w p xs (percent a b) = wellFormed w p xs a && wellFormed w p xs b
-  wellFormed w p xs (get e f) = isName w f && wellFormed w p xs e
-  wellFormed w p xs (set e f d) = isName w f && wellFormed w p xs e && wellFormed w p xs d
-  wellFormed w p xs (call e m es) = callable w m (countTerms es) && wellFormed w p xs e && wellFormedAll w p xs es
-  wellFormed w p xs (send e m es) = sendable w m (countTerms es) && wellFormed w p xs e && wellFormedAll w p xs es
+  wellFormed w p xs (op o es) = operable w o (countTerms es) && wellFormedAll w p xs es
   wellFormed w p xs (letIn x e d) = isVariable w x && wellFormed w p xs e && wellFormed w p (x ∷ xs) d
   wellFormed w p xs (Term.future x y e) = isVariable w x && isVariable w y && not (eqb x y) && wellFormed w p (x ∷ y ∷ xs) e
   wellFormed w p xs (literal k fs ms) =

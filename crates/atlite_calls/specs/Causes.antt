@@ -8,11 +8,11 @@ use mathlib.Core.Option.{Option, none, some}
 use lib.ListN.{getElem?}
 use lib.Dec.{eqb, leb}
 use Rattle.atlite.specs.Base.{Result, done, refused, _>>=_, _>>_, orRefuse, require, if_then_else_}
-use Rattle.atlite.specs.Term.{made, Series, Value, null, num, ref, Name, plain, twoWay, resolve, register, Kind, isolate, actor, Term, val, var, plus, percent, get, set, call, send, letIn, literal, Inits, Methods, noMethod, method, valueOf, valuesOf, isValue}
+use Rattle.atlite.specs.Term.{made, Series, Value, null, num, ref, Name, plain, twoWay, resolve, register, Kind, isolate, actor, Op, plus, percent, get, set, call, send, Term, val, var, op, letIn, literal, Inits, Methods, noMethod, method, valuesOf, isValue}
 use Rattle.atlite.specs.State.{Message, message, Entity, object, future, resolver, Actor, State, withInbox, fieldOf}
 use Rattle.atlite.specs.Outcome.{Copy, entity, own, namesFuture}
 use Rattle.atlite.specs.Passing.{meet, reach, heldValues, isolatesFor}
-use Rattle.atlite.specs.Rules.{number, plusRule, percentRule, makeRule, newRule, fieldsOf, getRule, setRule, methodsOf, invoke, callRule, futureRule, sendRule, resolves, openFuture, oneArgument, resolveRule, callByName, rule}
+use Rattle.atlite.specs.Rules.{oneOf, pairOf, receiverOf, asNumber, number, plusRule, percentRule, makeRule, newRule, fieldsOf, getRule, setRule, methodsOf, invoke, callRule, futureRule, sendRule, resolves, openFuture, resolveRule, callByName, operate, rule}
 use Rattle.atlite.specs.Redex.{redex}
 use Rattle.atlite.specs.Move.{takeTo, takeFrom, takeRule, turn, free, limited, moveWithin, move}
 
@@ -60,21 +60,27 @@ number-caused : (A : Actor) (n : ℕ) → Caused (number A n)
 unfolding number
 number-caused A n = tested 15 _ refl fine
 
-plus-caused : (A : Actor) (v w : Value) → Caused (plusRule A v w)
-unfolding plusRule
-plus-caused A null w = stopped refl
-plus-caused A (ref b s n) w = stopped refl
-plus-caused A (num m) null = stopped refl
-plus-caused A (num m) (ref b s n) = stopped refl
-plus-caused A (num m) (num n) = number-caused A (m + n)
+as-number-caused : (v : Value) → Caused (asNumber v)
+unfolding asNumber
+as-number-caused null = stopped refl
+as-number-caused (num n) = fine
+as-number-caused (ref b s n) = stopped refl
 
-percent-caused : (A : Actor) (v w : Value) → Caused (percentRule A v w)
-unfolding percentRule
-percent-caused A null w = stopped refl
-percent-caused A (ref b s n) w = stopped refl
-percent-caused A (num m) null = stopped refl
-percent-caused A (num m) (ref b s n) = stopped refl
-percent-caused A (num m) (num n) = number-caused A (m * n / 100)
+one-caused : (vs : List Value) → Caused (oneOf vs)
+unfolding oneOf
+one-caused [] = stopped refl
+one-caused (v ∷ []) = fine
+one-caused (v ∷ w ∷ vs) = stopped refl
+
+pair-caused : (vs : List Value) → Caused (pairOf vs)
+unfolding pairOf
+pair-caused [] = stopped refl
+pair-caused (v ∷ vs) = next (one-caused vs) λ w. fine
+
+receiver-caused : (vs : List Value) → Caused (receiverOf vs)
+unfolding receiverOf
+receiver-caused [] = stopped refl
+receiver-caused (v ∷ vs) = fine
 
 new-caused : (s : List Actor) (a : ℕ) (A : Actor) (k : Kind) (fs : Inits) (ms : Methods) → Caused (newRule s a A k fs ms)
 unfolding newRule makeRule
@@ -146,12 +152,6 @@ open-caused (future none q) = fine
 open-caused (future (some v) q) = stopped refl
 open-caused (resolver n) = stopped refl
 
-one-caused : (vs : List Value) → Caused (oneArgument vs)
-unfolding oneArgument
-one-caused [] = stopped refl
-one-caused (v ∷ []) = fine
-one-caused (v ∷ w ∷ vs) = stopped refl
-
 future-caused : (s : List Actor) (v : Value) → Caused (namesFuture s v)
 unfolding namesFuture
 future-caused s null = fine
@@ -169,16 +169,20 @@ name-caused s a A v (twoWay m) vs = stopped refl
 name-caused s a A v resolve vs = resolve-caused s a A v vs
 name-caused s a A v register vs = stopped refl
 
+operate-caused : (s : List Actor) (a : ℕ) (A : Actor) (o : Op Name) (vs : List Value) → Caused (operate s a A o vs)
+unfolding operate plusRule percentRule
+operate-caused s a A plus vs = next (pair-caused vs) λ p. next (as-number-caused (p .0)) λ m. next (as-number-caused (p .1)) λ n. number-caused A (m + n)
+operate-caused s a A percent vs = next (pair-caused vs) λ p. next (as-number-caused (p .0)) λ m. next (as-number-caused (p .1)) λ n. number-caused A (m * n / 100)
+operate-caused s a A (get f) vs = next (one-caused vs) λ v. get-caused a A v f
+operate-caused s a A (set f) vs = next (pair-caused vs) λ p. set-caused a A (p .0) f (p .1)
+operate-caused s a A (call m) vs = next (receiver-caused vs) λ p. name-caused s a A (p .0) m (p .1)
+operate-caused s a A (send m) vs = next (receiver-caused vs) λ p. send-caused s a A (p .0) m (p .1)
+
 rule-caused : (s : List Actor) (a : ℕ) (A : Actor) (e : Term) → Caused (rule s a A e)
 unfolding rule futureRule
 rule-caused s a A (val v) = stopped refl
 rule-caused s a A (var x) = stopped refl
-rule-caused s a A (plus e d) = plus-caused A (valueOf e) (valueOf d)
-rule-caused s a A (percent e d) = percent-caused A (valueOf e) (valueOf d)
-rule-caused s a A (get e f) = get-caused a A (valueOf e) f
-rule-caused s a A (set e f d) = set-caused a A (valueOf e) f (valueOf d)
-rule-caused s a A (call e m es) = name-caused s a A (valueOf e) m (valuesOf es)
-rule-caused s a A (send e m es) = send-caused s a A (valueOf e) m (valuesOf es)
+rule-caused s a A (op o es) = operate-caused s a A o (valuesOf es)
 rule-caused s a A (letIn x e d) = fine
 rule-caused s a A (Term.future x y e) = fine
 rule-caused s a A (literal k fs ms) = new-caused s a A k fs ms

@@ -8,8 +8,8 @@ use lib.ListN.{length}
 use lib.Dec.{eqb}
 use Rattle.atlite.specs.Base.{Result, bytes, sameBytes}
 use Rattle.atlite.specs.Lexicon.{Bytes, open′, close, space, newline, isWord, isNumber, dictionary, numberOf}
-use Rattle.atlite.specs.Script.{Src, Srcs, nil, cons, Line, expression, define, join}
-use Rattle.atlite.specs.Reader.{Reading, item, eat, after, atom, readAtom, readWord, spaced, spacedWord, readItems, readArgs, readParams, readNames, readHead, readFields, readMethods, Operator, plus, percent, get, set, call, send, ask, letIn, future, fn, resolve, when, seq, literal, operator, readTwo, readBetween, readMessage, readForm, readExpr, readDefinition, readLine, readLines, readScript}
+use Rattle.atlite.specs.Script.{Src, nil, cons, Line, expression, define, join}
+use Rattle.atlite.specs.Reader.{Reading, item, eat, after, atom, readAtom, readWord, spaced, spacedWord, readItems, readOperands, readParams, readNames, readHead, readFields, readMethods, Operator, bare, naming, letIn, future, fn, when, literal, operator, readForm, readExpr, readDefinition, readLine, readLines, readScript}
 use Rattle.atlite.specs.Table.{Table, read}
 use Rattle.atlite.specs.Load.{load}
 use Rattle.atlite_calls.specs.Causes.{Caused, fine, stopped, asked, next, tested, either}
@@ -55,13 +55,9 @@ unfolding readItems
 items-fair end more R h zero i = next (eat-fair close i) λ j. fine
 items-fair end more R h (suc k) i = option (after (close ∷ []) i) (next (spaced-fair R h i) λ p. next (items-fair end more R h k (p .1)) λ q. fine) (λ j. fine)
 
-names-fair : (ws : List Bytes) → Fair (readNames ws)
-unfolding readNames readParams
-names-fair ws i = option (after (close ∷ []) i) (next (word-fair ws i) λ p. next (items-fair [] _∷_ (readWord ws) (word-fair ws) 2 (p .1)) λ q. fine) (λ j. fine)
-
 head-fair : (ws : List Bytes) → Fair (readHead ws)
-unfolding readHead
-head-fair ws i = next (asked 2 (after (bytes " (") i) refl) λ j. names-fair ws j
+unfolding readHead readNames readParams
+head-fair ws i = next (asked 2 (after (bytes " (") i) refl) λ j. option (after (close ∷ []) j) (next (word-fair ws j) λ p. next (items-fair [] _∷_ (readWord ws) (word-fair ws) 2 (p .1)) λ q. fine) (λ k. fine)
 
 -- ---- forms, given a reader of their expressions
 module _ (ws : List Bytes) (R : Reading Src) (h : Fair R) where
@@ -78,33 +74,19 @@ module _ (ws : List Bytes) (R : Reading Src) (h : Fair R) where
   methods-fair zero i = fine
   methods-fair (suc k) i = option (after (bytes " (method ") i) fine (λ j. next (word-fair ws j) λ p. next (head-fair ws (p .1)) λ o. next (expr-fair (o .1)) λ q. next (eat-fair close (q .1)) λ l. next (methods-fair k l) λ r. fine)
 
-  two-fair : (c : Src → Src → Src) → Fair (readTwo c R)
-  unfolding readTwo
-  two-fair c i = next (expr-fair i) λ p. next (expr-fair (p .1)) λ q. next (eat-fair close (q .1)) λ l. fine
-
-  between-fair : (c : Src → ℕ → Src → Src) → Fair (readBetween c ws R)
-  unfolding readBetween
-  between-fair c i = next (expr-fair i) λ p. next (spaced-word-fair ws (p .1)) λ q. next (expr-fair (q .1)) λ r. next (eat-fair close (r .1)) λ l. fine
-
-  message-fair : (c : Src → ℕ → Srcs → Src) → Fair (readMessage c ws R)
-  unfolding readMessage readArgs
-  message-fair c i = next (expr-fair i) λ p. next (spaced-word-fair ws (p .1)) λ q. next (items-fair nil cons R h 3 (q .1)) λ r. fine
+  operands-fair : (k n : ℕ) → Fair (readOperands R k n)
+  unfolding readOperands
+  operands-fair zero n i = items-fair nil cons R h n i
+  operands-fair (suc k) n i = next (expr-fair i) λ p. next (operands-fair k n (p .1)) λ q. fine
 
   form-fair : (o : Operator) → Fair (readForm o ws R)
   unfolding readForm
-  form-fair plus i = two-fair Src.plus i
-  form-fair percent i = two-fair Src.percent i
-  form-fair get i = next (expr-fair i) λ p. next (spaced-word-fair ws (p .1)) λ q. next (eat-fair close (q .1)) λ l. fine
-  form-fair set i = between-fair Src.set i
-  form-fair call i = message-fair Src.call i
-  form-fair send i = message-fair Src.send i
-  form-fair ask i = message-fair Src.ask i
+  form-fair (bare o) i = next (operands-fair _ _ i) λ p. fine
+  form-fair (naming c) i = next (expr-fair i) λ p. next (spaced-word-fair ws (p .1)) λ q. next (operands-fair _ _ (q .1)) λ r. fine
   form-fair letIn i = next (spaced-word-fair ws i) λ p. next (expr-fair (p .1)) λ q. next (expr-fair (q .1)) λ r. next (eat-fair close (r .1)) λ l. fine
   form-fair future i = next (spaced-word-fair ws i) λ p. next (spaced-word-fair ws (p .1)) λ q. next (expr-fair (q .1)) λ r. next (eat-fair close (r .1)) λ l. fine
   form-fair fn i = next (spaced-word-fair ws i) λ p. next (expr-fair (p .1)) λ q. next (eat-fair close (q .1)) λ l. fine
-  form-fair resolve i = two-fair Src.resolve i
-  form-fair when i = between-fair Src.when i
-  form-fair seq i = two-fair Src.seq i
+  form-fair when i = next (expr-fair i) λ p. next (spaced-word-fair ws (p .1)) λ q. next (expr-fair (q .1)) λ r. next (eat-fair close (r .1)) λ l. fine
   form-fair (literal k) i = next (fields-fair 4 i) λ p. next (methods-fair 4 (p .1)) λ q. next (eat-fair close (q .1)) λ l. fine
 
 -- ---- expressions, lines, scripts

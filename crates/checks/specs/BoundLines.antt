@@ -11,7 +11,7 @@ use lib.Seq.{set-set, set-getD}
 use Rattle.atlite.specs.Base.{done}
 use Rattle.atlite.specs.Facts.{refused-done}
 use Rattle.atlite.specs.Scope.{bound}
-use Rattle.atlite.specs.Script.{Src, seq, letIn, Line, expression, define, join}
+use Rattle.atlite.specs.Script.{seq, Src, op, letIn, nil, cons, Line, expression, define, join}
 use Rattle.atlite.specs.Table.{Grammatical, GrammaticalLines}
 use Rattle.layout.specs.Results.{done-same, bind-done}
 use Rattle.words.specs.Wide.{wide, wideSrc, wideLines}
@@ -45,8 +45,8 @@ lines-join [] e xs j = absurd (refused-done j)
 lines-join (expression d ∷ []) e xs j = and-true (bound xs d) ∙ ap (bound xs) (done-same d e j)
 lines-join (define x d ∷ []) e xs j = absurd (refused-done j)
 lines-join (expression d ∷ l ∷ ls) e xs j =
-    let q = bind-done (join (l ∷ ls)) (λ b. done (seq d b)) e j in
-    ap (λ b. bound xs d && b) (lines-join (l ∷ ls) (q .0) xs (q .1)) ∙ ap (bound xs) (done-same (seq d (q .0)) e (q .2))
+    let q = bind-done (join (l ∷ ls)) (λ b. done (op seq (cons d (cons b nil)))) e j in
+    ap (λ b. bound xs d && b) (lines-join (l ∷ ls) (q .0) xs (q .1) ∙ sym (and-true (bound xs (q .0)))) ∙ ap (bound xs) (done-same (op seq (cons d (cons (q .0) nil))) e (q .2))
 lines-join (define x d ∷ l ∷ ls) e xs j =
     let q = bind-done (join (l ∷ ls)) (λ b. done (letIn x d b)) e j in
     ap (λ b. bound xs d && b) (lines-join (l ∷ ls) (q .0) (x ∷ xs) (q .1)) ∙ ap (bound xs) (done-same (letIn x d (q .0)) e (q .2))

@@ -12,10 +12,12 @@ use Rattle.atlite.specs.Base.{if_then_else_, member}
 use Rattle.atlite.specs.Term.{Kind, seen}
 use Rattle.atlite.specs.Scope.{bound, boundAll, boundFields, boundMethods}
 use Rattle.atlite.specs.Table.{Grammatical, GrammaticalAll, GrammaticalFields, GrammaticalMethods}
-use Rattle.atlite.specs.Script.{Src, num, null, var, plus, percent, get, set, call, send, ask, letIn, future, fn, resolve, when, seq, literal, Srcs, nil, cons, SrcFields, noField, field, SrcMethods, noMethod, method}
+use Rattle.atlite.specs.Script.{Src, num, null, var, op, letIn, future, fn, when, literal, Srcs, nil, cons, SrcFields, noField, field, SrcMethods, noMethod, method}
 use Rattle.layout.specs.Terms.{kindNumber}
+use Rattle.layout.specs.Tables.{srcKind}
 use Rattle.words.specs.Wide.{wide, pair, wideParams, wideMethod}
 use Rattle.checks.specs.Names.{Name, named, variable, all-named}
+use Rattle.checks.specs.Operators.{Passed, op-passed}
 use Rattle.checks.specs.Trees.{Forest, empty, tree, put, putAll, putFields, putMethods}
 use Rattle.checks.specs.TreeFits.{kind-wide, payload-wide}
 use Rattle.checks.specs.Bound.{sees, baseBy, baseOf, bindsBy, binds, bindAll, ok}
@@ -63,6 +65,11 @@ module _ (k p b l : ℕ) (L : List ℕ) (r : Forest) (h : k < 256) (v : eqb k 6 
   leaf : ok (tree (wide k p) empty empty r) L b l ≡ ok r L b l
   leaf = both empty empty true true (ok-none _ _ _) (ok-none _ _ _)
 
+-- the operands of an operator are in its own scope
+passed : (k p b l : ℕ) (L : List ℕ) (r : Forest) → Passed k → (a : Forest) (A : Bool) → ok a L b l ≡ A → ok (tree (wide k p) a empty r) L b l ≡ A && ok r L b l
+passed k p b l L r s a A x =
+    first k p b l L r (omega (arith, s .below)) (ne-eqb k 6 (λ e. omega (arith, s .above))) a A (rw (ne-eqb k 16 (s .noIsolate), ne-eqb k 17 (s .noActor)) x)
+
 a-variable : (x b l : ℕ) (L xs : List ℕ) (r : Forest) → x < 4096 → Levels L b l xs → ok (tree (wide 6 x) empty empty r) L b l ≡ member x (0 ∷ xs) && ok r L b l
 unfolding ok
 a-variable x b l L xs r h v = rw (sees-var x b l L xs h v)
@@ -70,9 +77,6 @@ a-variable x b l L xs r h v = rw (sees-var x b l L xs h v)
 module _ (L : List ℕ) (b l : ℕ) where
   one : (f : Forest) (A : Bool) → ok f L b l ≡ A && ok empty L b l → ok f L b l ≡ A
   one f A e = e ∙ ap (λ t. A && t) (ok-none L b l) ∙ and-true A
-
-  two : (f g : Forest) (A B : Bool) → ok f L b l ≡ A && ok g L b l → ok g L b l ≡ B && ok empty L b l → ok f L b l ≡ A && B
-  two f g A B e i = e ∙ ap (λ t. A && t) (one g B i)
 
 -- ---- scopes
 module _ (w b l : ℕ) (L xs : List ℕ) (k : w ≤ 4000) (h : Levels L b l xs) where
@@ -119,45 +123,21 @@ mutual
   ok-put null r L b l xs w k g h = leaf 1 0 b l L r (omega arith) refl
   ok-put (num n) r L b l xs w k g h = leaf 2 n b l L r (omega arith) refl
   ok-put (var x) r L b l xs w k g h = a-variable x b l L xs r (omega (arith, variable w x g)) h
-  ok-put (plus e d) r L b l xs w k g h =
-      first 7 0 b l L r (omega arith) refl _ _
-      (two L b l _ _ (bound xs e) (bound xs d) (ok-put e (put d empty) L b l xs w k (g .0) h) (ok-put d empty L b l xs w k (g .1) h))
-  ok-put (percent e d) r L b l xs w k g h =
-      first 8 0 b l L r (omega arith) refl _ _
-      (two L b l _ _ (bound xs e) (bound xs d) (ok-put e (put d empty) L b l xs w k (g .0) h) (ok-put d empty L b l xs w k (g .1) h))
-  ok-put (get e f) r L b l xs w k g h = first 9 f b l L r (omega arith) refl _ _ (one L b l _ (bound xs e) (ok-put e empty L b l xs w k (g .0) h))
-  ok-put (set e f d) r L b l xs w k g h =
-      first 10 f b l L r (omega arith) refl _ _
-      (two L b l _ _ (bound xs e) (bound xs d) (ok-put e (put d empty) L b l xs w k (g .0) h) (ok-put d empty L b l xs w k (g .2) h))
+  ok-put (op o es) r L b l xs w k g h = passed (srcKind o) _ b l L r (op-passed o) _ _ (one L b l _ (boundAll xs es) (ok-all es L b l xs w k (g .1) h))
   ok-put (letIn x e d) r L b l xs w k g h =
       both 11 x b l L r (omega arith) refl _ _ _ _ (one L b l _ (bound xs e) (ok-put e empty L b l xs w k (g .1) h))
       (one _ b (l + 1) _ (bound (x ∷ xs) d) (ok-put d empty _ b (l + 1) (x ∷ xs) w k (g .2) (bind-one w b l L xs k h x (named w x (g .0)))))
   ok-put (future x y e) r L b l xs w k g h =
       second 12 (pair x y) b l L r (omega arith) refl _ _
       (one _ b (l + 1) _ (bound (x ∷ y ∷ xs) e) (ok-put e empty _ b (l + 1) (x ∷ y ∷ xs) w k (g .2) (bind-two w b l L xs k h x y (named w x (g .0)) (named w y (g .1)))))
-  ok-put (call e m es) r L b l xs w k g h =
-      first 13 _ b l L r (omega arith) refl _ _
-      (two L b l _ _ (bound xs e) (boundAll xs es) (ok-put e (putAll es empty) L b l xs w k (g .0) h) (ok-all es L b l xs w k (g .3) h))
-  ok-put (send e m es) r L b l xs w k g h =
-      first 14 _ b l L r (omega arith) refl _ _
-      (two L b l _ _ (bound xs e) (boundAll xs es) (ok-put e (putAll es empty) L b l xs w k (g .0) h) (ok-all es L b l xs w k (g .3) h))
-  ok-put (ask e m es) r L b l xs w k g h =
-      first 64 _ b l L r (omega arith) refl _ _
-      (two L b l _ _ (bound xs e) (boundAll xs es) (ok-put e (putAll es empty) L b l xs w k (g .0) h) (ok-all es L b l xs w k (g .3) h))
   ok-put (literal t fs ms) r L b l xs w k g h =
       let i = inside t b l L xs h in
       a-literal t _ b l L _ _ r _ _ (ok-fields fs L _ l (seen t xs) w k (g .1) i) (ok-methods ms _ _ (l + 1) (seen t xs) w k (g .3) (bind-none w _ l L (seen t xs) k i))
   ok-put (fn x e) r L b l xs w k g h =
       second 65 x b l L r (omega arith) refl _ _ (one _ b (l + 1) _ (bound (x ∷ xs) e) (ok-put e empty _ b (l + 1) (x ∷ xs) w k (g .1) (bind-one w b l L xs k h x (named w x (g .0)))))
-  ok-put (resolve e d) r L b l xs w k g h =
-      first 66 0 b l L r (omega arith) refl _ _
-      (two L b l _ _ (bound xs e) (bound xs d) (ok-put e (put d empty) L b l xs w k (g .0) h) (ok-put d empty L b l xs w k (g .1) h))
   ok-put (when e x d) r L b l xs w k g h =
       both 67 x b l L r (omega arith) refl _ _ _ _ (one L b l _ (bound xs e) (ok-put e empty L b l xs w k (g .0) h))
       (one _ b (l + 1) _ (bound (x ∷ xs) d) (ok-put d empty _ b (l + 1) (x ∷ xs) w k (g .2) (bind-one w b l L xs k h x (named w x (g .1)))))
-  ok-put (seq e d) r L b l xs w k g h =
-      first 68 0 b l L r (omega arith) refl _ _
-      (two L b l _ _ (bound xs e) (bound xs d) (ok-put e (put d empty) L b l xs w k (g .0) h) (ok-put d empty L b l xs w k (g .1) h))
 
   ok-all : (es : Srcs) (L : List ℕ) (b l : ℕ) (xs : List ℕ) (w : ℕ) → w ≤ 4000 → GrammaticalAll w es → Levels L b l xs → ok (putAll es empty) L b l ≡ boundAll xs es && ok empty L b l
   ok-all nil L b l xs w k g h = refl

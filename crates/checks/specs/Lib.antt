@@ -10,6 +10,7 @@ pub mod Writing
 pub mod Written
 -- passes over trees
 pub mod Trees
+pub mod Operators
 pub mod TreeFits
 pub mod TreeCode
 pub mod Lines

@@ -9,12 +9,14 @@ use borrow.Author.Tests.{eq-eqb, ne-eqb}
 use lib.Dec.{eqb}
 use lib.ListN.{length, getD, drop, take-append-drop}
 use Rattle.atlite.specs.Term.{Kind}
-use Rattle.atlite.specs.Script.{Src, num, null, var, plus, percent, get, set, call, send, ask, letIn, future, fn, resolve, when, seq, literal, Line, expression, define}
+use Rattle.atlite.specs.Script.{Src, num, null, var, op, letIn, future, fn, when, literal, Line, expression, define}
 use Rattle.layout.specs.Pack.{flat}
 use Rattle.layout.specs.Terms.{kindNumber}
+use Rattle.layout.specs.Tables.{srcKind}
 use Rattle.words.specs.Wide.{wide, wideSrc, wideLine, wideLines}
 use Rattle.checks.specs.Stands.{Stands}
 use Rattle.checks.specs.Trees.{empty, words, put, words-put}
+use Rattle.checks.specs.Operators.{op-passed}
 use Rattle.checks.specs.TreeCode.{Here, here-left, here-right, here-first}
 
 -- ---- an expression's first word is no header
@@ -38,20 +40,12 @@ unfolding wideSrc
 head-src null = headed 1 0 _ (omega arith)
 head-src (num n) = headed 2 n _ (omega arith)
 head-src (var x) = headed 6 x _ (omega arith)
-head-src (plus a b) = headed 7 0 _ (omega arith)
-head-src (percent a b) = headed 8 0 _ (omega arith)
-head-src (get e f) = headed 9 f _ (omega arith)
-head-src (set a f b) = headed 10 f _ (omega arith)
+head-src (op o es) = headed (srcKind o) _ _ (omega (arith, op-passed o .below))
 head-src (letIn x a b) = headed 11 x _ (omega arith)
 head-src (future x y e) = headed 12 _ _ (omega arith)
-head-src (call e m es) = headed 13 _ _ (omega arith)
-head-src (send e m es) = headed 14 _ _ (omega arith)
 head-src (literal k fs ms) = head-literal k _ _
-head-src (ask e m es) = headed 64 _ _ (omega arith)
 head-src (fn x e) = headed 65 x _ (omega arith)
-head-src (resolve a b) = headed 66 0 _ (omega arith)
 head-src (when a x b) = headed 67 x _ (omega arith)
-head-src (seq a b) = headed 68 0 _ (omega arith)
 
 -- ---- where the expression of a line begins whose first word, at `at`, is h
 unfoldable pub startBy : ℕ → ℕ → ℕ

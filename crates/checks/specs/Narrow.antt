@@ -1,21 +1,24 @@
 -- A wide word as the word of a table, one for one: what is written for any word, and that for a script of at most 64 words of its own
 -- it is the word of the table. By cases on the form; a payload's digits are got back by their bounds. Assumes nothing.
-use Prim.Native.Nat.{ℕ, suc, _+_, _*_, _/_, _%_, _≤_, _<_}
+use Prim.Native.Nat.{ℕ, zero, suc, _+_, _*_, _/_, _%_, _≤_, _<_}
 use mathlib.Core.Path.{_≡_, refl, ap, _∙_}
-use mathlib.Core.Bool.{cond}
+use mathlib.Core.Bool.{cond, true, false≢true}
 use mathlib.Core.List.{List, [], _∷_, _++_}
 use native.Mathlib.Omega.{arith}
 use borrow.Author.Tests.{ne-eqb}
 use lib.Dec.{eqb}
 use lib.ListN.{length}
-use Rattle.atlite.specs.Term.{Kind, plain}
-use Rattle.atlite.specs.Table.{countSrcs, Grammatical, GrammaticalAll, GrammaticalFields, GrammaticalMethods, GrammaticalLines}
-use Rattle.atlite.specs.Script.{Src, num, null, var, plus, percent, get, set, call, send, ask, letIn, future, fn, resolve, when, seq, literal, Srcs, nil, cons, SrcFields, noField, field, SrcMethods, noMethod, method, Line, expression, define}
+use Rattle.atlite.specs.Term.{Kind, plain, plus, percent, get, set, call, send}
+use Rattle.atlite.specs.Facts.{and₂}
+use Rattle.atlite.specs.Valid.{isName}
+use Rattle.reading.specs.Items.{call-few, send-few}
+use Rattle.atlite.specs.Table.{Grammatical, GrammaticalAll, GrammaticalFields, GrammaticalMethods, GrammaticalLines, writable}
+use Rattle.atlite.specs.Script.{SrcOp, ask, resolve, seq, Src, num, null, var, op, letIn, future, fn, when, literal, Srcs, nil, cons, SrcFields, noField, field, SrcMethods, noMethod, method, Line, expression, define, countSrcs}
 use Rattle.layout.specs.Pack.{node, flat, places}
 use Rattle.layout.specs.PackLaws.{Each}
 use Rattle.layout.specs.Terms.{kindNumber, tagged, asked, methodHeader}
-use Rattle.layout.specs.Tables.{encodeSrc, encodeSrcs, encodeFields, encodeSrcMethods, encodeLine}
-use Rattle.words.specs.Wide.{wide, pair, wideParams, wideMethod, wideSrc, wideSrcs, wideFields, wideMethods, wideLine, wideLines}
+use Rattle.layout.specs.Tables.{srcKind, srcPayload, encodeSrc, encodeSrcs, encodeFields, encodeSrcMethods, encodeLine}
+use Rattle.words.specs.Wide.{wide, pair, wideParams, wideMethod, widePayload, wideSrc, wideSrcs, wideFields, wideMethods, wideLine, wideLines}
 use Rattle.checks.specs.Names.{Name, named, variable, all-named}
 
 unfoldable pub tableWord : ℕ → ℕ → ℕ
@@ -152,6 +155,21 @@ two-words h h′ v v′ u u′ e p q = one-word h h′ (v ++ u) (v′ ++ u′) e
 small : (w x : ℕ) → w ≤ 64 → Name w x → x < 16777216
 small w x l h = omega (arith, h .below)
 
+op-narrow : (w : ℕ) → w ≤ 64 → (o : SrcOp) (n : ℕ) → writable w o n ≡ true → narrow (wide (srcKind o) (widePayload o n)) ≡ node (srcKind o) (srcPayload o n)
+unfolding widePayload narrowBy
+op-narrow w l (SrcOp.kept plus) n h = kept 7 0 (omega arith) (omega arith) refl
+op-narrow w l (SrcOp.kept percent) n h = kept 8 0 (omega arith) (omega arith) refl
+op-narrow w l (SrcOp.kept (get f)) n h = kept 9 f (omega arith) (small w f l (named w f (and₂ (isName w f) (eqb n 1) h .0))) refl
+op-narrow w l (SrcOp.kept (set f)) n h = kept 10 f (omega arith) (small w f l (named w f (and₂ (isName w f) (eqb n 2) h .0))) refl
+op-narrow w l (SrcOp.kept (call m)) zero h = absurd (false≢true h)
+op-narrow w l (SrcOp.kept (call m)) (suc n) h = let f = call-few w m (suc n) h in sent 13 m n (omega arith) (omega (arith, named w m (f .0) .below)) (omega (arith, f .2)) refl
+op-narrow w l (SrcOp.kept (send m)) zero h = absurd (false≢true h)
+op-narrow w l (SrcOp.kept (send m)) (suc n) h = let f = send-few w m (suc n) h in sent 14 m n (omega arith) (omega (arith, named w m (f .0) .below)) (omega (arith, f .2)) refl
+op-narrow w l (ask m) zero h = absurd (false≢true h)
+op-narrow w l (ask m) (suc n) h = let f = send-few w m (suc n) h in sent 64 m n (omega arith) (omega (arith, named w m (f .0) .below)) (omega (arith, f .2)) refl
+op-narrow w l resolve n h = kept 66 0 (omega arith) (omega arith) refl
+op-narrow w l seq n h = kept 68 0 (omega arith) (omega arith) refl
+
 mutual
   unfolding encodeSrc wideSrc Grammatical narrowBy
 
@@ -159,23 +177,15 @@ mutual
   narrow-src (num n) w l g = one-word _ _ [] [] (kept 2 n (omega arith) (omega arith) refl) narrow-nil
   narrow-src null w l g = one-word _ _ [] [] (kept 1 0 (omega arith) (omega arith) refl) narrow-nil
   narrow-src (var x) w l g = one-word _ _ [] [] (kept 6 x (omega arith) (omega (arith, variable w x g)) refl) narrow-nil
-  narrow-src (plus a b) w l g = two-words _ _ _ _ _ _ (kept 7 0 (omega arith) (omega arith) refl) (narrow-src a w l (g .0)) (narrow-src b w l (g .1))
-  narrow-src (percent a b) w l g = two-words _ _ _ _ _ _ (kept 8 0 (omega arith) (omega arith) refl) (narrow-src a w l (g .0)) (narrow-src b w l (g .1))
-  narrow-src (get e f) w l g = one-word _ _ _ _ (kept 9 f (omega arith) (small w f l (named w f (g .1))) refl) (narrow-src e w l (g .0))
-  narrow-src (set e f d) w l g = two-words _ _ _ _ _ _ (kept 10 f (omega arith) (small w f l (named w f (g .1))) refl) (narrow-src e w l (g .0)) (narrow-src d w l (g .2))
+  narrow-src (op o es) w l g = one-word _ _ _ _ (op-narrow w l o (countSrcs es) (g .0)) (narrow-srcs es w l (g .1))
   narrow-src (letIn x e d) w l g = two-words _ _ _ _ _ _ (kept 11 x (omega arith) (small w x l (named w x (g .0))) refl) (narrow-src e w l (g .1)) (narrow-src d w l (g .2))
   narrow-src (future x y e) w l g =
       let hx = named w x (g .0) .below in
       let hy = named w y (g .1) .below in
       one-word _ _ _ _ (of-wide 12 (pair x y) (omega arith) ∙ pair-word 128 12 x y (omega arith) (omega arith) (omega arith)) (narrow-src e w l (g .2))
-  narrow-src (call e m es) w l g = two-words _ _ _ _ _ _ (sent 13 m (countSrcs es) (omega arith) (omega (arith, named w m (g .1) .below)) (g .2) refl) (narrow-src e w l (g .0)) (narrow-srcs es w l (g .3))
-  narrow-src (send e m es) w l g = two-words _ _ _ _ _ _ (sent 14 m (countSrcs es) (omega arith) (omega (arith, named w m (g .1) .below)) (g .2) refl) (narrow-src e w l (g .0)) (narrow-srcs es w l (g .3))
-  narrow-src (ask e m es) w l g = two-words _ _ _ _ _ _ (sent 64 m (countSrcs es) (omega arith) (omega (arith, named w m (g .1) .below)) (g .2) refl) (narrow-src e w l (g .0)) (narrow-srcs es w l (g .3))
   narrow-src (literal k fs ms) w l g = two-words _ _ _ _ _ _ (literal-kept k _ (omega (arith, g .0, g .2))) (narrow-fields fs w l (g .1)) (narrow-methods ms w l (g .3))
   narrow-src (fn x e) w l g = one-word _ _ _ _ (kept 65 x (omega arith) (small w x l (named w x (g .0))) refl) (narrow-src e w l (g .1))
-  narrow-src (resolve a b) w l g = two-words _ _ _ _ _ _ (kept 66 0 (omega arith) (omega arith) refl) (narrow-src a w l (g .0)) (narrow-src b w l (g .1))
   narrow-src (when e x d) w l g = two-words _ _ _ _ _ _ (kept 67 x (omega arith) (small w x l (named w x (g .1))) refl) (narrow-src e w l (g .0)) (narrow-src d w l (g .2))
-  narrow-src (seq a b) w l g = two-words _ _ _ _ _ _ (kept 68 0 (omega arith) (omega arith) refl) (narrow-src a w l (g .0)) (narrow-src b w l (g .1))
 
   narrow-srcs : (es : Srcs) (w : ℕ) → w ≤ 64 → GrammaticalAll w es → narrowAll (wideSrcs es) ≡ encodeSrcs es
   narrow-srcs nil w l g = narrow-nil

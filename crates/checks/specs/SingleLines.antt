@@ -1,6 +1,6 @@
 -- That names are single in the lines, one line after another, is that they are in the script that the lines join to. Assumes nothing.
 use Prim.Native.Nat.{ℕ, _+_, _-_, _≤_}
-use mathlib.Core.Path.{_≡_, refl, ap, _∙_}
+use mathlib.Core.Path.{_≡_, refl, ap, _∙_, sym}
 use mathlib.Core.Bool.{Bool, true, false, _&&_, and-true}
 use mathlib.Core.List.{List, [], _∷_, append-nil}
 use native.Mathlib.Omega.{arith}
@@ -9,7 +9,7 @@ use lib.ListN.{length, getD}
 use Rattle.atlite.specs.Base.{done}
 use Rattle.atlite.specs.Facts.{refused-done}
 use Rattle.atlite.specs.Scope.{single}
-use Rattle.atlite.specs.Script.{Src, seq, letIn, Line, expression, define, join}
+use Rattle.atlite.specs.Script.{seq, Src, op, letIn, nil, cons, Line, expression, define, join}
 use Rattle.atlite.specs.Table.{Grammatical, GrammaticalLines}
 use Rattle.layout.specs.Results.{done-same, bind-done}
 use Rattle.words.specs.Wide.{wideSrc, wideLines}
@@ -40,8 +40,8 @@ lines-join [] e j = absurd (refused-done j)
 lines-join (expression d ∷ []) e j = and-true (single d) ∙ ap single (done-same d e j)
 lines-join (define x d ∷ []) e j = absurd (refused-done j)
 lines-join (expression d ∷ l ∷ ls) e j =
-    let q = bind-done (join (l ∷ ls)) (λ b. done (seq d b)) e j in
-    ap (λ b. single d && b) (lines-join (l ∷ ls) (q .0) (q .1)) ∙ ap single (done-same (seq d (q .0)) e (q .2))
+    let q = bind-done (join (l ∷ ls)) (λ b. done (op seq (cons d (cons b nil)))) e j in
+    ap (λ b. single d && b) (lines-join (l ∷ ls) (q .0) (q .1) ∙ sym (and-true (single (q .0)))) ∙ ap single (done-same (op seq (cons d (cons (q .0) nil))) e (q .2))
 lines-join (define x d ∷ l ∷ ls) e j =
     let q = bind-done (join (l ∷ ls)) (λ b. done (letIn x d b)) e j in
     ap (λ b. single d && b) (lines-join (l ∷ ls) (q .0) (q .1)) ∙ ap single (done-same (letIn x d (q .0)) e (q .2))

@@ -4,18 +4,20 @@ use mathlib.Core.Path.{_≡_, refl, sym, ap, _∙_}
 use mathlib.Core.Bool.{Bool, true, false, _&&_, not, and-true, and-assoc}
 use mathlib.Core.List.{List, [], _∷_}
 use native.Mathlib.Omega.{arith}
-use borrow.Author.Tests.{lt-ltb}
+use borrow.Author.Tests.{lt-ltb, ne-eqb}
 use lib.Dec.{eqb}
 use lib.ListN.{length}
 use Rattle.atlite.specs.Base.{member, distinct}
 use Rattle.atlite.specs.Term.{Kind}
 use Rattle.atlite.specs.Scope.{single, singleAll, singleFields, singleMethods, fieldNames, methodNames}
 use Rattle.atlite.specs.Table.{countFields, countMethods, Grammatical, GrammaticalAll, GrammaticalFields, GrammaticalMethods}
-use Rattle.atlite.specs.Script.{Src, num, null, var, plus, percent, get, set, call, send, ask, letIn, future, fn, resolve, when, seq, literal, Srcs, nil, cons, SrcFields, noField, field, SrcMethods, noMethod, method}
+use Rattle.atlite.specs.Script.{SrcOp, Src, num, null, var, op, letIn, future, fn, when, literal, Srcs, nil, cons, SrcFields, noField, field, SrcMethods, noMethod, method, countSrcs}
 use Rattle.layout.specs.PackLaws.{Each}
 use Rattle.layout.specs.Terms.{kindNumber}
-use Rattle.words.specs.Wide.{wide, pair, wideParams, wideMethod}
+use Rattle.layout.specs.Tables.{srcKind}
+use Rattle.words.specs.Wide.{wide, pair, wideParams, wideMethod, widePayload}
 use Rattle.checks.specs.Names.{Name, named, all-named}
+use Rattle.checks.specs.Operators.{op-passed}
 use Rattle.checks.specs.Trees.{Forest, empty, tree, put, putAll, putFields, putMethods}
 use Rattle.checks.specs.TreeFits.{kind-wide, payload-wide}
 use Rattle.checks.specs.Single.{ownBy, own, noted, sing}
@@ -60,8 +62,9 @@ leaf k p n r h e = node k p n empty empty r true true true h e sing-none sing-no
 one : (f : Forest) (A : Bool) → sing f 0 ≡ A && sing empty 0 → sing f 0 ≡ A
 one f A e = e ∙ ap (λ b. A && b) sing-none ∙ and-true A
 
-two : (f g : Forest) (A B : Bool) → sing f 0 ≡ A && sing g 0 → sing g 0 ≡ B && sing empty 0 → sing f 0 ≡ A && B
-two f g A B e i = e ∙ ap (λ b. A && b) (one g B i)
+-- an operator has no list of names
+op-own : (o : SrcOp) (n p : ℕ) → ownBy (srcKind o) p n ≡ true
+op-own o n p = let s = op-passed o in rw (ne-eqb (srcKind o) 12 (s .noFuture), ne-eqb (srcKind o) 128 (λ e. omega (arith, s .below)), ne-eqb (srcKind o) 192 (λ e. omega (arith, s .below)))
 
 -- ---- lists of names
 small : (w m : ℕ) → w ≤ 4000 → Name w m → m < 4096
@@ -127,23 +130,15 @@ mutual
   sing-put null r n w l g = leaf 1 0 n r (omega arith) refl
   sing-put (num k) r n w l g = leaf 2 k n r (omega arith) refl
   sing-put (var x) r n w l g = leaf 6 x n r (omega arith) refl
-  sing-put (plus a b) r n w l g = first 7 0 n _ r _ (omega arith) refl (two _ _ (single a) (single b) (sing-put a (put b empty) 0 w l (g .0)) (sing-put b empty 0 w l (g .1)))
-  sing-put (percent a b) r n w l g = first 8 0 n _ r _ (omega arith) refl (two _ _ (single a) (single b) (sing-put a (put b empty) 0 w l (g .0)) (sing-put b empty 0 w l (g .1)))
-  sing-put (get e f) r n w l g = first 9 f n _ r _ (omega arith) refl (one _ (single e) (sing-put e empty 0 w l (g .0)))
-  sing-put (set a f b) r n w l g = first 10 f n _ r _ (omega arith) refl (two _ _ (single a) (single b) (sing-put a (put b empty) 0 w l (g .0)) (sing-put b empty 0 w l (g .2)))
+  sing-put (op o es) r n w l g = first (srcKind o) _ n _ r _ (op-passed o .below) (op-own o n (widePayload o (countSrcs es))) (one _ (singleAll es) (sing-all es w l (g .1)))
   sing-put (letIn x a b) r n w l g = both 11 x n _ _ r _ _ (omega arith) refl (one _ (single a) (sing-put a empty 0 w l (g .1))) (one _ (single b) (sing-put b empty 0 w l (g .2)))
   sing-put (future x y e) r n w l g =
       node 12 (pair x y) n empty _ r (not (eqb x y)) true (single e) (omega arith) (future-own w x y n l (named w x (g .0)) (named w y (g .1))) sing-none (one _ (single e) (sing-put e empty 0 w l (g .2)))
-  sing-put (call e m es) r n w l g = first 13 _ n _ r _ (omega arith) refl (two _ _ (single e) (singleAll es) (sing-put e (putAll es empty) 0 w l (g .0)) (sing-all es w l (g .3)))
-  sing-put (send e m es) r n w l g = first 14 _ n _ r _ (omega arith) refl (two _ _ (single e) (singleAll es) (sing-put e (putAll es empty) 0 w l (g .0)) (sing-all es w l (g .3)))
-  sing-put (ask e m es) r n w l g = first 64 _ n _ r _ (omega arith) refl (two _ _ (single e) (singleAll es) (sing-put e (putAll es empty) 0 w l (g .0)) (sing-all es w l (g .3)))
   sing-put (literal k fs ms) r n w l g =
       a-literal k _ n _ _ r _ _ (sing-fields fs [] w l (omega (arith, g .0)) tt (g .1)) (sing-methods ms [] w l (omega (arith, g .2)) tt (g .3))
       ∙ rw (from-none (fieldNames fs), from-none (methodNames ms)) (literal-turn (distinct (fieldNames fs)) (distinct (methodNames ms)) (singleFields fs) (singleMethods ms) (sing r n))
   sing-put (fn x e) r n w l g = second 65 x n _ r _ (omega arith) refl (one _ (single e) (sing-put e empty 0 w l (g .1)))
-  sing-put (resolve a b) r n w l g = first 66 0 n _ r _ (omega arith) refl (two _ _ (single a) (single b) (sing-put a (put b empty) 0 w l (g .0)) (sing-put b empty 0 w l (g .1)))
   sing-put (when a x b) r n w l g = both 67 x n _ _ r _ _ (omega arith) refl (one _ (single a) (sing-put a empty 0 w l (g .0))) (one _ (single b) (sing-put b empty 0 w l (g .2)))
-  sing-put (seq a b) r n w l g = first 68 0 n _ r _ (omega arith) refl (two _ _ (single a) (single b) (sing-put a (put b empty) 0 w l (g .0)) (sing-put b empty 0 w l (g .1)))
 
   sing-all : (es : Srcs) (w : ℕ) → w ≤ 4000 → GrammaticalAll w es → sing (putAll es empty) 0 ≡ singleAll es && sing empty 0
   sing-all nil w l g = refl

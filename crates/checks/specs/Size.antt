@@ -12,11 +12,13 @@ use lib.Dec.{ltb}
 use lib.ListN.{length, getD, take}
 use lib.Seq.{slice, slice-cons, slice-empty}
 use Rattle.atlite.specs.Base.{done}
-use Rattle.atlite.specs.Script.{Src, num, null, var, plus, percent, get, set, call, send, ask, letIn, future, fn, resolve, when, seq, literal, Srcs, nil, cons, SrcFields, noField, field, SrcMethods, noMethod, method, Line, expression, define, size, sizeAll, sizeFields, sizeMethods, join}
+use Rattle.atlite.specs.Script.{seq, Src, num, null, var, op, letIn, future, fn, when, literal, Srcs, nil, cons, SrcFields, noField, field, SrcMethods, noMethod, method, Line, expression, define, size, sizeAll, sizeFields, sizeMethods, join}
 use Rattle.atlite.specs.Facts.{refused-done}
 use Rattle.atlite.specs.Term.{Kind}
 use Rattle.layout.specs.Pack.{flat}
 use Rattle.layout.specs.Terms.{kindNumber}
+use Rattle.layout.specs.Tables.{srcKind}
+use Rattle.checks.specs.Operators.{op-passed}
 use Rattle.layout.specs.Results.{done-same, bind-done}
 use Rattle.checks.specs.Stands.{Stands, within}
 use Rattle.words.specs.Wide.{wide, wideMethod, wideSrc, wideSrcs, wideFields, wideMethods, wideLine, wideLines}
@@ -104,20 +106,12 @@ mutual
   nodes-src (num n) = one-part _ [] 0 (is-node 2 n (omega arith)) nodes-nil
   nodes-src null = one-part _ [] 0 (is-node 1 0 (omega arith)) nodes-nil
   nodes-src (var x) = one-part _ [] 0 (is-node 6 x (omega arith)) nodes-nil
-  nodes-src (plus a b) = two-parts _ _ _ _ _ (is-node 7 0 (omega arith)) (nodes-src a) (nodes-src b)
-  nodes-src (percent a b) = two-parts _ _ _ _ _ (is-node 8 0 (omega arith)) (nodes-src a) (nodes-src b)
-  nodes-src (get e f) = one-part _ _ _ (is-node 9 f (omega arith)) (nodes-src e)
-  nodes-src (set e f d) = two-parts _ _ _ _ _ (is-node 10 f (omega arith)) (nodes-src e) (nodes-src d)
+  nodes-src (op o es) = one-part _ _ _ (is-node (srcKind o) _ (op-passed o .below)) (nodes-srcs es)
   nodes-src (letIn x e d) = two-parts _ _ _ _ _ (is-node 11 x (omega arith)) (nodes-src e) (nodes-src d)
   nodes-src (future x y e) = one-part _ _ _ (is-node 12 _ (omega arith)) (nodes-src e)
-  nodes-src (call e m es) = two-parts _ _ _ _ _ (is-node 13 _ (omega arith)) (nodes-src e) (nodes-srcs es)
-  nodes-src (send e m es) = two-parts _ _ _ _ _ (is-node 14 _ (omega arith)) (nodes-src e) (nodes-srcs es)
   nodes-src (literal k fs ms) = two-parts _ _ _ _ _ (literal-node k _) (nodes-fields fs) (nodes-methods ms)
-  nodes-src (ask e m es) = two-parts _ _ _ _ _ (is-node 64 _ (omega arith)) (nodes-src e) (nodes-srcs es)
   nodes-src (fn x e) = one-part _ _ _ (is-node 65 x (omega arith)) (nodes-src e)
-  nodes-src (resolve e d) = two-parts _ _ _ _ _ (is-node 66 0 (omega arith)) (nodes-src e) (nodes-src d)
   nodes-src (when e x d) = two-parts _ _ _ _ _ (is-node 67 x (omega arith)) (nodes-src e) (nodes-src d)
-  nodes-src (seq a b) = two-parts _ _ _ _ _ (is-node 68 0 (omega arith)) (nodes-src a) (nodes-src b)
 
   nodes-srcs : (es : Srcs) → nodesIn (wideSrcs es) ≡ sizeAll es
   nodes-srcs nil = nodes-nil
@@ -139,8 +133,8 @@ nodes-lines (expression d ∷ []) e j =
     omega (arith, nodes-append (wideSrc d) [], nodes-src d, ap size z)
 nodes-lines (define x d ∷ []) e j = absurd (refused-done j)
 nodes-lines (expression d ∷ l ∷ ls) e j =
-    let q = bind-done (join (l ∷ ls)) (λ b. done (seq d b)) e j in
-    let z : seq d (q .0) ≡ e = done-same (seq d (q .0)) e (q .2) in
+    let q = bind-done (join (l ∷ ls)) (λ b. done (op seq (cons d (cons b nil)))) e j in
+    let z : op seq (cons d (cons (q .0) nil)) ≡ e = done-same (op seq (cons d (cons (q .0) nil))) e (q .2) in
     let i = nodes-lines (l ∷ ls) (q .0) (q .1) in
     omega (arith, nodes-append (wideSrc d) (flat wideLine (l ∷ ls)), nodes-src d, ap size z, i)
 nodes-lines (define x d ∷ l ∷ ls) e j =

@@ -5,10 +5,11 @@ use mathlib.Core.Path.{_≡_, refl, sym, ap, _∙_}
 use mathlib.Core.Bool.{cond}
 use mathlib.Core.List.{List, [], _∷_, _++_, append-assoc, append-nil}
 use lib.Dec.{eqb}
-use Rattle.atlite.specs.Table.{countSrcs, countFields, countMethods}
-use Rattle.atlite.specs.Script.{Src, num, null, var, plus, percent, get, set, call, send, ask, letIn, future, fn, resolve, when, seq, literal, Srcs, nil, cons, SrcFields, noField, field, SrcMethods, noMethod, method}
+use Rattle.atlite.specs.Table.{countFields, countMethods}
+use Rattle.atlite.specs.Script.{Src, num, null, var, op, letIn, future, fn, when, literal, Srcs, nil, cons, SrcFields, noField, field, SrcMethods, noMethod, method, countSrcs}
 use Rattle.layout.specs.Terms.{kindNumber}
-use Rattle.words.specs.Wide.{wide, pair, wideMethod, wideSrc, wideSrcs, wideFields, wideMethods}
+use Rattle.layout.specs.Tables.{srcKind}
+use Rattle.words.specs.Wide.{wide, pair, widePayload, wideMethod, wideSrc, wideSrcs, wideFields, wideMethods}
 
 pub data Forest : Type 0 where
   empty : Forest
@@ -71,20 +72,12 @@ unfoldable mutual
   put null r = tree (wide 1 0) empty empty r
   put (num n) r = tree (wide 2 n) empty empty r
   put (var x) r = tree (wide 6 x) empty empty r
-  put (plus a b) r = tree (wide 7 0) (put a (put b empty)) empty r
-  put (percent a b) r = tree (wide 8 0) (put a (put b empty)) empty r
-  put (get e f) r = tree (wide 9 f) (put e empty) empty r
-  put (set e f d) r = tree (wide 10 f) (put e (put d empty)) empty r
+  put (op o es) r = tree (wide (srcKind o) (widePayload o (countSrcs es))) (putAll es empty) empty r
   put (letIn x e d) r = tree (wide 11 x) (put e empty) (put d empty) r
   put (future x y e) r = tree (wide 12 (pair x y)) empty (put e empty) r
-  put (call e m es) r = tree (wide 13 (pair m (countSrcs es))) (put e (putAll es empty)) empty r
-  put (send e m es) r = tree (wide 14 (pair m (countSrcs es))) (put e (putAll es empty)) empty r
   put (literal k fs ms) r = tree (wide (kindNumber k) (countFields fs + 8 * countMethods ms)) (putFields fs empty) (putMethods ms empty) r
-  put (ask e m es) r = tree (wide 64 (pair m (countSrcs es))) (put e (putAll es empty)) empty r
   put (fn x e) r = tree (wide 65 x) empty (put e empty) r
-  put (resolve a b) r = tree (wide 66 0) (put a (put b empty)) empty r
   put (when e x d) r = tree (wide 67 x) (put e empty) (put d empty) r
-  put (seq a b) r = tree (wide 68 0) (put a (put b empty)) empty r
 
   pub putAll : Srcs → Forest → Forest
   putAll nil r = r
@@ -120,9 +113,6 @@ one : (a : Forest) (v : List ℕ) → words a ≡ v ++ words empty → words a �
 unfolding words
 one a v p = p ∙ append-nil v
 
-two : (a b : Forest) (v u : List ℕ) → words a ≡ v ++ words b → words b ≡ u ++ words empty → words a ≡ v ++ u
-two a b v u p q = p ∙ ap (λ l. v ++ l) (one b u q)
-
 mutual
   unfolding put wideSrc
 
@@ -130,20 +120,12 @@ mutual
   words-put null r = first _ empty r [] words-none
   words-put (num n) r = first _ empty r [] words-none
   words-put (var x) r = first _ empty r [] words-none
-  words-put (plus a b) r = first _ _ r _ (two _ _ (wideSrc a) (wideSrc b) (words-put a (put b empty)) (words-put b empty))
-  words-put (percent a b) r = first _ _ r _ (two _ _ (wideSrc a) (wideSrc b) (words-put a (put b empty)) (words-put b empty))
-  words-put (get e f) r = first _ _ r _ (one _ (wideSrc e) (words-put e empty))
-  words-put (set a f b) r = first _ _ r _ (two _ _ (wideSrc a) (wideSrc b) (words-put a (put b empty)) (words-put b empty))
+  words-put (op o es) r = first _ _ r _ (one _ (wideSrcs es) (words-all es empty))
   words-put (letIn x a b) r = both _ _ _ r _ _ (one _ (wideSrc a) (words-put a empty)) (one _ (wideSrc b) (words-put b empty))
   words-put (future x y e) r = second _ _ r _ (one _ (wideSrc e) (words-put e empty))
-  words-put (call e m es) r = first _ _ r _ (two _ _ (wideSrc e) (wideSrcs es) (words-put e (putAll es empty)) (words-all es empty))
-  words-put (send e m es) r = first _ _ r _ (two _ _ (wideSrc e) (wideSrcs es) (words-put e (putAll es empty)) (words-all es empty))
   words-put (literal k fs ms) r = both _ _ _ r _ _ (one _ (wideFields fs) (words-fields fs empty)) (one _ (wideMethods ms) (words-methods ms empty))
-  words-put (ask e m es) r = first _ _ r _ (two _ _ (wideSrc e) (wideSrcs es) (words-put e (putAll es empty)) (words-all es empty))
   words-put (fn x e) r = second _ _ r _ (one _ (wideSrc e) (words-put e empty))
-  words-put (resolve a b) r = first _ _ r _ (two _ _ (wideSrc a) (wideSrc b) (words-put a (put b empty)) (words-put b empty))
   words-put (when a x b) r = both _ _ _ r _ _ (one _ (wideSrc a) (words-put a empty)) (one _ (wideSrc b) (words-put b empty))
-  words-put (seq a b) r = first _ _ r _ (two _ _ (wideSrc a) (wideSrc b) (words-put a (put b empty)) (words-put b empty))
 
   words-all : (es : Srcs) (r : Forest) → words (putAll es r) ≡ wideSrcs es ++ words r
   words-all nil r = refl
@@ -169,20 +151,12 @@ mutual
   count-put null r = refl
   count-put (num n) r = refl
   count-put (var x) r = refl
-  count-put (plus a b) r = refl
-  count-put (percent a b) r = refl
-  count-put (get e f) r = refl
-  count-put (set a f b) r = refl
+  count-put (op o es) r = refl
   count-put (letIn x a b) r = refl
   count-put (future x y e) r = refl
-  count-put (call e m es) r = refl
-  count-put (send e m es) r = refl
   count-put (literal k fs ms) r = refl
-  count-put (ask e m es) r = refl
   count-put (fn x e) r = refl
-  count-put (resolve a b) r = refl
   count-put (when a x b) r = refl
-  count-put (seq a b) r = refl
 
 pub count-all : (es : Srcs) → count (putAll es empty) ≡ countSrcs es
 unfolding put count countSrcs

@@ -6,7 +6,7 @@ use mathlib.Core.List.{List, [], _∷_}
 use Prim.Native.Nat.{ℕ, _+_, _<_}
 use native.Mathlib.Omega.{arith}
 use Rattle.atlite.specs.Base.{member, all, distinct, if_then_else_}
-use Rattle.atlite.specs.Term.{this, ·t, ·r, ·l, ·x, apply, Value, plain, resolve, Term, var, send, cons, nil, countTerms, initNames, methodNames, seen}
+use Rattle.atlite.specs.Term.{this, ·t, ·r, ·l, ·x, apply, Value, plain, resolve, send, Term, var, op, two, countTerms, initNames, methodNames, seen}
 use Rattle.atlite.specs.Expansion.{functionWith, resolvingWith}
 use Rattle.atlite.specs.Valid.{isName, isVariable, namesWithin, parameters, sendable, WellFormed}
 use borrow.Author.Tests.{lt-ltb}
@@ -51,5 +51,5 @@ module _ (w : ℕ) (P : Value → Type 0) where
       → WellFormed (resolvingWith z e d) w P zs
   unfolding resolvingWith sendable countTerms member if_then_else_
   resolving-wf zs z e d hz h k =
-      let b = function-wf (·r ∷ zs) z ·x (send (var ·r) resolve (cons (var ·x) nil)) (hidden w ·x (omega arith) (omega arith)) hz (refl, refl, (refl, tt)) in
-      (hidden w ·r (omega arith) (omega arith), h, (hidden w ·l (omega arith) (omega arith), b, (refl, k, (refl, tt))))
+      let b = function-wf (·r ∷ zs) z ·x (op (send resolve) (two (var ·r) (var ·x))) (hidden w ·x (omega arith) (omega arith)) hz (refl, (refl, (refl, tt))) in
+      (hidden w ·r (omega arith) (omega arith), h, (hidden w ·l (omega arith) (omega arith), b, (refl, (k, (refl, tt)))))

@@ -15,7 +15,7 @@ use Rattle.atlite.specs.Expansion.{expand}
 use Rattle.atlite.specs.Limits.{full, withinLimits}
 use Rattle.atlite.specs.Valid.{unreferring, wordsHold, WellFormed, MayHold, IsState, IsActor}
 use Rattle.atlite.specs.Table.{Grammatical, GrammaticalLines, IsTable, Table}
-use Rattle.atlite.specs.Script.{Src, Line, expression, define, join}
+use Rattle.atlite.specs.Script.{seq, Src, nil, cons, Line, expression, define, countSrcs, join}
 use Rattle.atlite.specs.Scope.{bound, single}
 use Rattle.atlite.specs.Lexicon.{Bytes}
 use Rattle.atlite.specs.Load.{start, load}
@@ -27,15 +27,15 @@ use Rattle.invariant.specs.Expanded.{Plain, expanded}
 
 -- lines of the grammar are joined to a script of the grammar
 pub joined : (w : ℕ) (ls : List Line) (e : Src) → GrammaticalLines w ls → join ls ≡ done e → Grammatical w e
-unfolding join GrammaticalLines Grammatical
+unfolding join GrammaticalLines Grammatical countSrcs
 joined w [] e g h = absurd (refused-done h)
 joined w (expression d ∷ []) e g h = let q : d ≡ e = cc in transp (Grammatical w) q (g .0)
 joined w (define x d ∷ []) e g h = absurd (refused-done h)
 joined w (expression d ∷ l ∷ ls) e g h = go (join (l ∷ ls)) (λ s. joined w (l ∷ ls) s (g .1)) h
   where
-    go : (r : Result Src) → ((s : Src) → r ≡ done s → Grammatical w s) → (r >>= λ s. done (Src.seq d s)) ≡ done e → Grammatical w e
+    go : (r : Result Src) → ((s : Src) → r ≡ done s → Grammatical w s) → (r >>= λ s. done (Src.op seq (cons d (cons s nil)))) ≡ done e → Grammatical w e
     go (refused n) i k = absurd (refused-done k)
-    go (done s) i k = let q : Src.seq d s ≡ e = cc in transp (Grammatical w) q (g .0, i s refl)
+    go (done s) i k = let q : Src.op seq (cons d (cons s nil)) ≡ e = cc in transp (Grammatical w) q (refl, (g .0, (i s refl, tt)))
 joined w (define x d ∷ l ∷ ls) e g h = go (join (l ∷ ls)) (λ s. joined w (l ∷ ls) s (g .2)) h
   where
     go : (r : Result Src) → ((s : Src) → r ≡ done s → Grammatical w s) → (r >>= λ s. done (Src.letIn x d s)) ≡ done e → Grammatical w e

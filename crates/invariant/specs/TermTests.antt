@@ -5,8 +5,8 @@ use mathlib.Core.List.{List, [], _∷_, _++_}
 use Prim.Native.Nat.{ℕ}
 use lib.Dec.{eqb}
 use Rattle.atlite.specs.Base.{all}
-use Rattle.atlite.specs.Term.{this, Value, Kind, object, isolate, actor, Term, val, var, plus, percent, get, set, call, send, letIn, future, literal, Terms, nil, cons, Inits, noField, field, Methods, noMethod, method, countTerms, initNames, methodNames, seen}
-use Rattle.atlite.specs.Valid.{isName, isVariable, sendable, callable, namesWithin, parameters, All, Held, WellFormed, WellFormedAll, WellFormedInits, WellFormedMethods}
+use Rattle.atlite.specs.Term.{this, Value, Kind, object, isolate, actor, Term, val, var, op, letIn, future, literal, Terms, nil, cons, Inits, noField, field, Methods, noMethod, method, countTerms, initNames, methodNames, seen}
+use Rattle.atlite.specs.Valid.{isVariable, operable, namesWithin, parameters, All, Held, WellFormed, WellFormedAll, WellFormedInits, WellFormedMethods}
 use Rattle.atlite.specs.ValidTest.{held, wellFormed, wellFormedAll, wellFormedInits, wellFormedMethods}
 use Rattle.atlite.specs.Facts.{and₂, and₃, and₄, both₂, both₃, both₄}
 use Rattle.invariant.specs.Terms.{widerInits, widerMethods}
@@ -33,12 +33,7 @@ mutual
   pub wf-to : (e : Term) (w : ℕ) (p : Value → Bool) (xs : List ℕ) → wellFormed w p xs e ≡ true → WellFormed e w (Is p) xs
   wf-to (val v) w p xs h = h
   wf-to (var x) w p xs h = h
-  wf-to (plus a b) w p xs h = let r = and₂ (wellFormed w p xs a) (wellFormed w p xs b) h in (wf-to a w p xs (r .0), wf-to b w p xs (r .1))
-  wf-to (percent a b) w p xs h = let r = and₂ (wellFormed w p xs a) (wellFormed w p xs b) h in (wf-to a w p xs (r .0), wf-to b w p xs (r .1))
-  wf-to (get e f) w p xs h = let r = and₂ (isName w f) (wellFormed w p xs e) h in (r .0, wf-to e w p xs (r .1))
-  wf-to (set e f d) w p xs h = let r = and₃ (isName w f) (wellFormed w p xs e) (wellFormed w p xs d) h in (r .0, wf-to e w p xs (r .1), wf-to d w p xs (r .2))
-  wf-to (call e m es) w p xs h = let r = and₃ (callable w m (countTerms es)) (wellFormed w p xs e) (wellFormedAll w p xs es) h in (r .0, wf-to e w p xs (r .1), all-to es w p xs (r .2))
-  wf-to (send e m es) w p xs h = let r = and₃ (sendable w m (countTerms es)) (wellFormed w p xs e) (wellFormedAll w p xs es) h in (r .0, wf-to e w p xs (r .1), all-to es w p xs (r .2))
+  wf-to (op o es) w p xs h = let r = and₂ (operable w o (countTerms es)) (wellFormedAll w p xs es) h in (r .0, all-to es w p xs (r .1))
   wf-to (letIn x e d) w p xs h = let r = and₃ (isVariable w x) (wellFormed w p xs e) (wellFormed w p (x ∷ xs) d) h in (r .0, wf-to e w p xs (r .1), wf-to d w p (x ∷ xs) (r .2))
   wf-to (future x y e) w p xs h = let r = and₂ (isVariable w x && isVariable w y && not (eqb x y)) (wellFormed w p (x ∷ y ∷ xs) e) h in (r .0, wf-to e w p (x ∷ y ∷ xs) (r .1))
   wf-to (literal k fs ms) w p xs h =
@@ -69,12 +64,7 @@ mutual
   pub wf-from : (e : Term) (w : ℕ) (p : Value → Bool) (xs : List ℕ) → WellFormed e w (Is p) xs → wellFormed w p xs e ≡ true
   wf-from (val v) w p xs h = h
   wf-from (var x) w p xs h = h
-  wf-from (plus a b) w p xs h = both₂ (wf-from a w p xs (h .0)) (wf-from b w p xs (h .1))
-  wf-from (percent a b) w p xs h = both₂ (wf-from a w p xs (h .0)) (wf-from b w p xs (h .1))
-  wf-from (get e f) w p xs h = both₂ (h .0) (wf-from e w p xs (h .1))
-  wf-from (set e f d) w p xs h = both₃ (h .0) (wf-from e w p xs (h .1)) (wf-from d w p xs (h .2))
-  wf-from (call e m es) w p xs h = both₃ (h .0) (wf-from e w p xs (h .1)) (all-from es w p xs (h .2))
-  wf-from (send e m es) w p xs h = both₃ (h .0) (wf-from e w p xs (h .1)) (all-from es w p xs (h .2))
+  wf-from (op o es) w p xs h = both₂ (h .0) (all-from es w p xs (h .1))
   wf-from (letIn x e d) w p xs h = both₃ (h .0) (wf-from e w p xs (h .1)) (wf-from d w p (x ∷ xs) (h .2))
   wf-from (future x y e) w p xs h = both₂ (h .0) (wf-from e w p (x ∷ y ∷ xs) (h .1))
   wf-from (literal k fs ms) w p xs h =

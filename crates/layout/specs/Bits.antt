@@ -5,14 +5,14 @@ use mathlib.Core.Option.{none, some}
 use native.Mathlib.Nat.{mod-lt, div-lt-iff-lt-mul}
 use native.Mathlib.Omega.{arith}
 use lib.ListN.{length, length-append}
-use Rattle.atlite.specs.Term.{made, copied, Value, null, num, ref, Name, Term, val, var, plus, percent, get, set, call, send, letIn, future, literal, Terms, nil, cons, Inits, noField, Methods, noMethod, method, countTerms}
+use Rattle.atlite.specs.Term.{made, copied, Value, null, num, ref, Name, Op, Term, val, var, op, letIn, future, literal, Terms, nil, cons, Inits, noField, Methods, noMethod, method, countTerms, shape}
 use Rattle.atlite.specs.State.{Message, message, field, Entity, object, resolver, Actor, State, fieldNames, fieldValues}
 use Rattle.atlite.specs.Valid.{IsState}
 use Rattle.layout.specs.Pack.{node, zeros, pad, flat}
 use Rattle.layout.specs.PackLaws.{Each, each-map, NameFits, names-small, places-small}
-use Rattle.layout.specs.Terms.{countInits, countMethods, encodeValue, asked, kindNumber, fieldHeader, methodHeader, encodeTerm, encodeTerms, encodeInits, encodeMethods}
-use Rattle.layout.specs.TermLaws.{kind-small, ValueFits, NameOk, Fits, FitsAll, FitsInits, FitsMethods}
-use Rattle.layout.specs.TermReads.{bit, asked-small}
+use Rattle.layout.specs.Terms.{countInits, countMethods, encodeValue, asked, opKind, opPayload, kindNumber, fieldHeader, methodHeader, encodeTerm, encodeTerms, encodeInits, encodeMethods}
+use Rattle.layout.specs.TermLaws.{op-kind-small, kind-small, ValueFits, NameOk, OpFits, Fits, FitsAll, FitsInits, FitsMethods}
+use Rattle.layout.specs.TermReads.{bit, asked-small, label-small}
 use Rattle.layout.specs.Layout.{valueWords, encodeMessage, slotHead, tagNumber, slot, slots, methodsOf, bodies, queues, encodeActor, bytesNumber, threeWords, encodeWord, encode}
 use Rattle.layout.specs.Slots.{MessageFits, EntityFits, EntitiesFit, count-names, tag-low, fits-of, queues-fit}
 use Rattle.layout.specs.Parts.{ActorFits}
@@ -63,18 +63,16 @@ name-small k x h l = node-small k x h (omega (arith, l))
 pub asked-word : (k : ℕ) (m : Name) (n : ℕ) → k < 256 → NameOk m → n < 8 → node k (asked m n) < 4294967296
 asked-word k m n h l g = node-small k (asked m n) h (omega (arith, asked-small m n l g))
 
+pub op-word : (o : Op Name) (n : ℕ) → OpFits o n → node (opKind o) (opPayload o n) < 4294967296
+op-word o n h = node-small (opKind o) (opPayload o n) (omega (arith, op-kind-small o)) (label-small (shape o) n h)
+
 mutual
   unfolding encodeTerm Fits
 
   term-small : (e : Term) → Fits e → Small (encodeTerm e)
   term-small (val v) h = (value-small v h, tt)
   term-small (var x) h = (name-small 6 x (omega arith) h, tt)
-  term-small (plus a b) h = (omega arith, both (encodeTerm a) (encodeTerm b) (term-small a (h .0)) (term-small b (h .1)))
-  term-small (percent a b) h = (omega arith, both (encodeTerm a) (encodeTerm b) (term-small a (h .0)) (term-small b (h .1)))
-  term-small (get e f) h = (name-small 9 f (omega arith) (h .0), term-small e (h .1))
-  term-small (set a f b) h = (name-small 10 f (omega arith) (h .0), both (encodeTerm a) (encodeTerm b) (term-small a (h .1)) (term-small b (h .2)))
-  term-small (call e m es) h = (asked-word 13 m (countTerms es) (omega arith) (h .0) (h .1), both (encodeTerm e) (encodeTerms es) (term-small e (h .2)) (terms-small es (h .3)))
-  term-small (send e m es) h = (asked-word 14 m (countTerms es) (omega arith) (h .0) (h .1), both (encodeTerm e) (encodeTerms es) (term-small e (h .2)) (terms-small es (h .3)))
+  term-small (op o es) h = (op-word o (countTerms es) (h .0), terms-small es (h .1))
   term-small (letIn x a b) h = (name-small 11 x (omega arith) (h .0), both (encodeTerm a) (encodeTerm b) (term-small a (h .1)) (term-small b (h .2)))
   term-small (future x y e) h =
       (node-small 12 (x + 128 * y) (omega arith) (omega (arith, h .0, h .1)), term-small e (h .2))

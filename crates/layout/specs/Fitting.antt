@@ -1,6 +1,6 @@
 -- What is well formed fits its bits: at most 64 words make names below 127, and lists keep the text's limits. By induction on the
 -- term. Assumes nothing.
-use Prim.Native.Nat.{ℕ, suc, _+_, _≤_, _<_}
+use Prim.Native.Nat.{ℕ, zero, suc, _+_, _≤_, _<_}
 use mathlib.Core.Path.{_≡_, refl, ap}
 use mathlib.Core.Bool.{Bool, true, false, not, false≢true}
 use mathlib.Core.List.{List, [], _∷_, _++_}
@@ -9,13 +9,13 @@ use borrow.Author.Tests.{ltb-true, leb-true, eqb-true}
 use lib.ListN.{length}
 use lib.Dec.{eqb, leb, ltb}
 use Rattle.atlite.specs.Base.{member, distinct, all, if_then_else_}
-use Rattle.atlite.specs.Term.{this, apply, firstWord, Value, null, num, ref, Name, plain, twoWay, resolve, register, Kind, Term, val, var, plus, percent, get, set, call, send, letIn, future, literal, Terms, nil, cons, Inits, noField, Methods, noMethod, method, countTerms, initNames, methodNames, seen, top}
-use Rattle.atlite.specs.Valid.{isName, isVariable, sendable, callable, unreferring, namesWithin, parameters}
+use Rattle.atlite.specs.Term.{this, apply, firstWord, Value, null, num, ref, Name, plain, twoWay, resolve, register, Shape, exactly, onField, calling, sending, shape, Kind, Term, val, var, op, letIn, future, literal, Terms, nil, cons, Inits, noField, Methods, noMethod, method, countTerms, initNames, methodNames, seen, top}
+use Rattle.atlite.specs.Valid.{isName, isVariable, sendable, callable, shapely, operable, unreferring, namesWithin, parameters}
 use Rattle.atlite.specs.ValidTest.{held, wellFormed, wellFormedAll, wellFormedInits, wellFormedMethods}
 use Rattle.atlite.specs.Facts.{and₂, and₃, and₄}
 use Rattle.layout.specs.Terms.{countInits, countMethods}
 use Rattle.layout.specs.PackLaws.{NameFits, Each, each-append}
-use Rattle.layout.specs.TermLaws.{ValueFits, NameOk, Fits, FitsAll, FitsInits, FitsMethods}
+use Rattle.layout.specs.TermLaws.{ValueFits, NameOk, ShapeFits, Fits, FitsAll, FitsInits, FitsMethods}
 
 pub each-all : {A : Type 0} (P : A → Type 0) (p : A → Bool) (f : (x : A) → p x ≡ true → P x) (xs : List A) → all p xs ≡ true → Each P xs
 unfolding all
@@ -53,6 +53,14 @@ module _ (w : ℕ) (l : w ≤ 64) where
   call-fits (twoWay m) n h = absurd (false≢true h)
   call-fits resolve n h = let b = eqb-true n 1 h in (tt, omega arith)
   call-fits register n h = absurd (false≢true h)
+
+  pub shape-fits : (s : Shape Name) (n : ℕ) → shapely w s n ≡ true → ShapeFits s n
+  shape-fits (exactly k) n h = eqb-true n k h
+  shape-fits (onField f k) n h = let r = and₂ (isName w f) (eqb n k) h in (name-fits f (r .0), eqb-true n k (r .1))
+  shape-fits (calling m) zero h = false≢true h
+  shape-fits (calling m) (suc n) h = let q = call-fits m n h in (q .0, omega (arith, q .1))
+  shape-fits (sending m) zero h = false≢true h
+  shape-fits (sending m) (suc n) h = let q = send-fits m n h in (q .0, omega (arith, q .1))
 
 pub plain-fits : (v : Value) → unreferring v ≡ true → ValueFits v
 unfolding unreferring
@@ -121,23 +129,8 @@ mutual
   pub fits-term : (e : Term) (w : ℕ) (p : Value → Bool) (xs : List ℕ) → w ≤ 64 → Sound p → Known xs → wellFormed w p xs e ≡ true → Fits e
   fits-term (val v) w p xs l f k h = f v h
   fits-term (var x) w p xs l f k h = member-known x xs k h
-  fits-term (plus a b) w p xs l f k h =
-      let r = and₂ (wellFormed w p xs a) (wellFormed w p xs b) h in (fits-term a w p xs l f k (r .0), fits-term b w p xs l f k (r .1))
-  fits-term (percent a b) w p xs l f k h =
-      let r = and₂ (wellFormed w p xs a) (wellFormed w p xs b) h in (fits-term a w p xs l f k (r .0), fits-term b w p xs l f k (r .1))
-  fits-term (get e g) w p xs l f k h =
-      let r = and₂ (isName w g) (wellFormed w p xs e) h in (name-fits w l g (r .0), fits-term e w p xs l f k (r .1))
-  fits-term (set a g b) w p xs l f k h =
-      let r = and₃ (isName w g) (wellFormed w p xs a) (wellFormed w p xs b) h in
-      (name-fits w l g (r .0), fits-term a w p xs l f k (r .1), fits-term b w p xs l f k (r .2))
-  fits-term (call e m es) w p xs l f k h =
-      let r = and₃ (callable w m (countTerms es)) (wellFormed w p xs e) (wellFormedAll w p xs es) h in
-      let q = call-fits w l m (countTerms es) (r .0) in
-      (q .0, omega (arith, q .1), fits-term e w p xs l f k (r .1), fits-all es w p xs l f k (r .2))
-  fits-term (send e m es) w p xs l f k h =
-      let r = and₃ (sendable w m (countTerms es)) (wellFormed w p xs e) (wellFormedAll w p xs es) h in
-      let q = send-fits w l m (countTerms es) (r .0) in
-      (q .0, omega (arith, q .1), fits-term e w p xs l f k (r .1), fits-all es w p xs l f k (r .2))
+  fits-term (op o es) w p xs l f k h =
+      let r = and₂ (operable w o (countTerms es)) (wellFormedAll w p xs es) h in (shape-fits w l (shape o) (countTerms es) (r .0), fits-all es w p xs l f k (r .1))
   fits-term (letIn x a b) w p xs l f k h =
       let r = and₃ (isVariable w x) (wellFormed w p xs a) (wellFormed w p (x ∷ xs) b) h in
       let q = variable-fits w l x (r .0) in

@@ -9,7 +9,7 @@ use mathlib.Core.List.{List, [], _∷_}
 use mathlib.Core.Option.{Option, some}
 use lib.ListN.{length, getD}
 use lib.Dec.{eqb, ltb, leb}
-use Rattle.atlite.specs.Term.{Value, null, num, Name, plain, twoWay, resolve, register, Kind, Term, val, var, plus, percent, get, set, call, send, letIn, future, literal, Terms, nil, cons, Inits, noField, Methods, noMethod, method}
+use Rattle.atlite.specs.Term.{Value, null, num, Name, plain, twoWay, resolve, register, Op, plus, percent, get, set, call, send, Kind, Term, val, var, op, letIn, future, literal, Terms, nil, cons, Inits, noField, Methods, noMethod, method}
 use Rattle.atlite.specs.State.{Message, message}
 use Rattle.layout.specs.TermReading.{refIn}
 
@@ -58,13 +58,13 @@ nameForms x = given (ltb x 127) (some (plain x)) ∷ given (ltb x 127) (some (tw
 unfoldable pub nameOf : ℕ → ℕ → Option Name
 nameOf t x = getD (nameForms x) t Option.none
 
--- What a word asks for behind it: nothing, one term, two, a term and so many others, or so many fields and so many methods.
+-- What a word asks for behind it: nothing, one term, two, so many operands, or so many fields and so many methods.
 pub data Head : Type 0 where
   noHead : Head
   leaf : Term → Head
   unary : (Term → Term) → Head
   binary : (Term → Term → Term) → Head
-  asks : (Term → Terms → Term) → ℕ → Head
+  many : Op Name → ℕ → Head
   parts : Kind → ℕ → ℕ → Head
 
 abbrev pub only : Bool → Head → Head
@@ -74,11 +74,11 @@ abbrev pub valueHead : Option Value → Head
 valueHead Option.none = noHead
 valueHead (some v) = leaf (val v)
 
-abbrev pub askHead : (Term → Name → Terms → Term) → ℕ → Option Name → Head
+abbrev pub askHead : (Name → Op Name) → ℕ → Option Name → Head
 askHead f n Option.none = noHead
-askHead f n (some m) = asks (λ e es. f e m es) n
+askHead f n (some m) = many (f m) (suc n)
 
-abbrev pub askIn : (Term → Name → Terms → Term) → ℕ → Head
+abbrev pub askIn : (Name → Op Name) → ℕ → Head
 askIn f p = only (ltb (p / 128 / 4) 8) (askHead f (p / 128 / 4) (nameOf (p / 128 % 4) (p % 128)))
 
 abbrev pub literalHead : Kind → ℕ → Head
@@ -93,10 +93,10 @@ heads p =
     ∷ noHead
     ∷ noHead
     ∷ only (ltb p 127) (leaf (var p))
-    ∷ only (eqb p 0) (binary plus)
-    ∷ only (eqb p 0) (binary percent)
-    ∷ only (ltb p 127) (unary (λ e. get e p))
-    ∷ only (ltb p 127) (binary (λ e d. set e p d))
+    ∷ only (eqb p 0) (many plus 2)
+    ∷ only (eqb p 0) (many percent 2)
+    ∷ only (ltb p 127) (many (get p) 1)
+    ∷ only (ltb p 127) (many (set p) 2)
     ∷ only (ltb p 127) (binary (λ e d. letIn p e d))
     ∷ only (ltb (p % 128) 127) (only (ltb (p / 128) 127) (unary (λ e. future (p % 128) (p / 128) e)))
     ∷ askIn call p
@@ -157,7 +157,7 @@ formed noHead p w at = none
 formed (leaf e) p w at = got e at
 formed (unary f) p w at = onGot f (p at)
 formed (binary f) p w at = pair f (p at) p
-formed (asks f n) p w at = pair f (p at) (λ i. termsBy p n i)
+formed (many o n) p w at = onGot (op o) (termsBy p n at)
 formed (parts k n m) p w at = pair (literal k) (initsBy p w n at) (λ i. methodsBy p w m i)
 
 unfoldable pub parseTerm : ℕ → List ℕ → ℕ → Got Term

@@ -7,14 +7,14 @@ use mathlib.Core.Option.{Option, some}
 use native.Mathlib.Nat.{add-zero}
 use native.Mathlib.Omega.{arith}
 use lib.ListN.{length, drop, getD, length-append}
-use Rattle.atlite.specs.Term.{Kind, Term, val, var, plus, percent, get, set, call, send, letIn, future, literal, Terms, nil, cons, Inits, noField, Methods, noMethod, method, countTerms}
+use Rattle.atlite.specs.Term.{Name, Op, Kind, Term, val, var, op, letIn, future, literal, Terms, nil, cons, Inits, noField, Methods, noMethod, method, countTerms}
 use Rattle.layout.specs.Pack.{node}
 use Rattle.layout.specs.PackLaws.{NameFits, Each}
 use Rattle.layout.specs.Terms.{countInits, countMethods, encodeValue, fieldHeader, methodHeader, encodeTerm, encodeTerms, encodeInits, encodeMethods}
 use Rattle.layout.specs.TermLaws.{Fits, FitsAll, FitsInits, FitsMethods}
-use Rattle.layout.specs.Parse.{Got, got, onGot, pair, behind, Head, leaf, unary, binary, asks, parts, headAt, fieldAt, methodAt, termsBy, initsBy, methodsBy, formed, parseTerm, parseTerms, parseInits, parseMethods}
+use Rattle.layout.specs.Parse.{Got, got, onGot, pair, behind, Head, leaf, unary, binary, many, parts, headAt, fieldAt, methodAt, termsBy, initsBy, methodsBy, formed, parseTerm, parseTerms, parseInits, parseMethods}
 use Rattle.layout.specs.ParseWords.{field-read, method-read}
-use Rattle.layout.specs.ParseHeads.{head-value, head-var, head-plus, head-percent, head-get, head-set, head-let, head-future, head-call, head-send, head-literal}
+use Rattle.layout.specs.ParseHeads.{head-value, head-var, head-op, head-let, head-future, head-literal}
 use Rattle.layout.specs.Spans.{drop-past, drop-next, drop-first}
 
 -- a reader that gets a wherever the words xs stand, by fuel and position
@@ -66,10 +66,9 @@ module _ (w : List ℕ) where
   unfolding formed
   meets-two x f xs ys a b d h k = meets-head x (binary f) (xs ++ ys) (f a b) d (meets-pair f (λ n at. parseTerm n w at) (λ n at. parseTerm n w at) xs ys a b h k)
 
-  meets-asks : (x : ℕ) (f : Term → Terms → Term) (c : ℕ) (xs ys : List ℕ) (e : Term) (es : Terms)
-      → headAt x ≡ asks f c → MeetsTerm xs e → Meets (λ n at. parseTerms n w c at) w ys es → MeetsTerm (x ∷ (xs ++ ys)) (f e es)
+  meets-many : (x : ℕ) (o : Op Name) (c : ℕ) (xs : List ℕ) (es : Terms) → headAt x ≡ many o c → Meets (λ n at. parseTerms n w c at) w xs es → MeetsTerm (x ∷ xs) (op o es)
   unfolding formed
-  meets-asks x f c xs ys e es d h k = meets-head x (asks f c) (xs ++ ys) (f e es) d (meets-pair f (λ n at. parseTerm n w at) (λ n at. parseTerms n w c at) xs ys e es h k)
+  meets-many x o c xs es d h = meets-head x (many o c) xs (op o es) d (meets-on (op o) (λ n at. parseTerms n w c at) xs es h)
 
   meets-parts : (x : ℕ) (k : Kind) (c d : ℕ) (xs ys : List ℕ) (fs : Inits) (ms : Methods)
       → headAt x ≡ parts k c d → Meets (λ n at. parseInits n w c at) w xs fs → Meets (λ n at. parseMethods n w d at) w ys ms → MeetsTerm (x ∷ (xs ++ ys)) (literal k fs ms)
@@ -96,16 +95,9 @@ mutual
   pub term-complete : (e : Term) (w : List ℕ) → Fits e → MeetsTerm w (encodeTerm e) e
   term-complete (val v) w h = meets-leaf w (encodeValue v) (val v) (head-value v h)
   term-complete (var x) w h = meets-leaf w (node 6 x) (var x) (head-var x h)
-  term-complete (plus a b) w h = meets-two w (node 7 0) plus (encodeTerm a) (encodeTerm b) a b head-plus (term-complete a w (h .0)) (term-complete b w (h .1))
-  term-complete (percent a b) w h = meets-two w (node 8 0) percent (encodeTerm a) (encodeTerm b) a b head-percent (term-complete a w (h .0)) (term-complete b w (h .1))
-  term-complete (get e f) w h = meets-one w (node 9 f) (λ e. get e f) (encodeTerm e) e (head-get f (h .0)) (term-complete e w (h .1))
-  term-complete (set a f b) w h = meets-two w (node 10 f) (λ e d. set e f d) (encodeTerm a) (encodeTerm b) a b (head-set f (h .0)) (term-complete a w (h .1)) (term-complete b w (h .2))
+  term-complete (op o es) w h = meets-many w _ o (countTerms es) (encodeTerms es) es (head-op o (countTerms es) (h .0)) (terms-complete es w (h .1))
   term-complete (letIn x a b) w h = meets-two w (node 11 x) (λ e d. letIn x e d) (encodeTerm a) (encodeTerm b) a b (head-let x (h .0)) (term-complete a w (h .1)) (term-complete b w (h .2))
   term-complete (future x y e) w h = meets-one w _ (λ e. future x y e) (encodeTerm e) e (head-future x (h .0) y (h .1)) (term-complete e w (h .2))
-  term-complete (call e m es) w h =
-      meets-asks w _ (λ e es. call e m es) (countTerms es) (encodeTerm e) (encodeTerms es) e es (head-call m (countTerms es) (h .0) (h .1)) (term-complete e w (h .2)) (terms-complete es w (h .3))
-  term-complete (send e m es) w h =
-      meets-asks w _ (λ e es. send e m es) (countTerms es) (encodeTerm e) (encodeTerms es) e es (head-send m (countTerms es) (h .0) (h .1)) (term-complete e w (h .2)) (terms-complete es w (h .3))
   term-complete (literal k fs ms) w h =
       meets-parts w _ k (countInits fs) (countMethods ms) (encodeInits fs) (encodeMethods ms) fs ms (head-literal k (countInits fs) (countMethods ms) (h .0) (h .1)) (inits-complete fs w (h .2)) (methods-complete ms w (h .3))
 

@@ -1,7 +1,7 @@
 -- The head that a word is, exactly. `Reads` says of a head what a term made with it must be: fitting, where its parts are, and laid
 -- out as this word and then the parts; every word's head is such a head, and every term's first word has the head of that term.
 -- By the table of kinds, one row each. Assumes nothing.
-use Prim.Native.Nat.{ℕ, _+_, _*_, _≤_, _<_, _/_, _%_}
+use Prim.Native.Nat.{ℕ, zero, suc, _+_, _*_, _≤_, _<_, _/_, _%_}
 use mathlib.Core.Path.{_≡_, refl, sym, ap, _∙_}
 use mathlib.Core.Bool.{Bool, true, false}
 use mathlib.Core.List.{List, [], _∷_, _++_}
@@ -11,13 +11,13 @@ use native.Mathlib.Omega.{arith}
 use borrow.Author.Tests.{ltb-true, eqb-true, lt-ltb}
 use lib.Dec.{eqb, ltb}
 use lib.ListN.{List·getD-eq-default}
-use Rattle.atlite.specs.Term.{Value, null, num, ref, Name, Kind, Term, val, var, plus, percent, get, set, call, send, letIn, future, literal, Terms, Inits, Methods, countTerms}
+use Rattle.atlite.specs.Term.{Value, null, num, ref, Name, Op, plus, percent, get, set, call, send, Kind, Term, val, var, op, letIn, future, literal, Terms, Inits, Methods, countTerms}
 use Rattle.layout.specs.Pack.{node}
-use Rattle.layout.specs.Terms.{countInits, countMethods, seriesBit, encodeValue, tagged, asked, kindNumber, encodeTerm, encodeTerms, encodeInits, encodeMethods}
+use Rattle.layout.specs.Terms.{countInits, countMethods, seriesBit, encodeValue, tagged, asked, opKind, opPayload, kindNumber, encodeTerm, encodeTerms, encodeInits, encodeMethods}
 use Rattle.layout.specs.PackLaws.{pack-low, pack-high, NameFits}
-use Rattle.layout.specs.TermLaws.{ValueFits, NameOk, Fits, FitsAll, FitsInits, FitsMethods}
+use Rattle.layout.specs.TermLaws.{ValueFits, NameOk, OpFits, Fits, FitsAll, FitsInits, FitsMethods}
 use Rattle.layout.specs.TermReads.{bit, ref-back, asked-small, asked-count}
-use Rattle.layout.specs.Parse.{valueIn, nameOf, Head, noHead, leaf, unary, binary, asks, parts, only, valueHead, askHead, askIn, literalHead, heads, headIn, headAt}
+use Rattle.layout.specs.Parse.{valueIn, nameOf, Head, noHead, leaf, unary, binary, many, parts, only, valueHead, askHead, askIn, literalHead, heads, headIn, headAt}
 use Rattle.layout.specs.ParseWords.{Along, along-getD, Holding, word-node, payload-small, of-node, ValueWord, value-in, NameWord, name-word, name-read}
 
 -- ---- every word's head makes terms that begin with the word
@@ -30,7 +30,7 @@ Reads x noHead = Unit {0}
 Reads x (leaf e) = Is e (x ∷ [])
 Reads x (unary f) = (e : Term) → Fits e → Is (f e) (x ∷ encodeTerm e)
 Reads x (binary f) = (e d : Term) → Fits e → Fits d → Is (f e d) (x ∷ (encodeTerm e ++ encodeTerm d))
-Reads x (asks f n) = (e : Term) (es : Terms) → Fits e → FitsAll es → countTerms es ≡ n → Is (f e es) (x ∷ (encodeTerm e ++ encodeTerms es))
+Reads x (many o n) = (es : Terms) → FitsAll es → countTerms es ≡ n → Is (op o es) (x ∷ encodeTerms es)
 Reads x (parts k n m) = (fs : Inits) (ms : Methods) → FitsInits fs → FitsMethods ms → countInits fs ≡ n → countMethods ms ≡ m → Is (literal k fs ms) (x ∷ (encodeInits fs ++ encodeMethods ms))
 
 reads-only : (x : ℕ) (b : Bool) (h : Head) → (b ≡ true → Reads x h) → Reads x (only b h)
@@ -53,17 +53,16 @@ reads-value x (some v) h = (h .0, ap (λ y. y ∷ []) (h .1))
 pub asked-sum : (p t : ℕ) → t ≡ p % 128 + 128 * (p / 128 % 4) → t + 512 * (p / 128 / 4) ≡ p
 asked-sum p t e = omega arith
 
-module _ (k : ℕ) (f : Term → Name → Terms → Term) where
-  -- that the constructor is laid out under this kind
+module _ (k : ℕ) (f : Name → Op Name) where
+  -- that the operator is laid out under this kind
   abbrev Asking : Type 0
-  Asking = (e : Term) (m : Name) (es : Terms) → NameOk m → countTerms es < 8 → Fits e → FitsAll es → Is (f e m es) (node k (asked m (countTerms es)) ∷ (encodeTerm e ++ encodeTerms es))
+  Asking = (m : Name) (n : ℕ) (es : Terms) → NameOk m → n < 8 → FitsAll es → countTerms es ≡ suc n → Is (op (f m) es) (node k (asked m n) ∷ encodeTerms es)
 
   reads-name : Asking → (p : ℕ) (o : Option Name) → p / 128 / 4 < 8 → Holding (NameWord (p / 128 % 4) (p % 128)) o → Reads (node k p) (askHead f (p / 128 / 4) o)
   reads-name g p none l h = tt
-  reads-name g p (some m) l h = λ e es i j c.
-      let q : asked m (countTerms es) ≡ p = ap (λ n. tagged m + 512 * n) c ∙ asked-sum p (tagged m) (h .1) in
-      let r = g e m es (h .0) (omega arith) i j in
-      (r .0, r .1 ∙ ap (λ n. node k n ∷ (encodeTerm e ++ encodeTerms es)) q)
+  reads-name g p (some m) l h = λ es j c.
+      let r = g m (p / 128 / 4) es (h .0) l j c in
+      (r .0, r .1 ∙ ap (λ n. node k n ∷ encodeTerms es) (asked-sum p (tagged m) (h .1)))
 
   reads-ask : Asking → (p : ℕ) → Reads (node k p) (askIn f p)
   reads-ask g p = reads-lt (node k p) (p / 128 / 4) 8 _ (λ l. reads-name g p (nameOf (p / 128 % 4) (p % 128)) l (name-word (p / 128 % 4) (p % 128)))
@@ -88,14 +87,14 @@ rows p h =
     (row tt
     (row tt
     (row (reads-lt (node 6 p) p 127 (leaf (var p)) (λ l. (l, refl)))
-    (row (reads-eq (node 7 p) p 0 (binary plus) (λ z e d i j. ((i, j), ap (λ n. node 7 n ∷ (encodeTerm e ++ encodeTerm d)) (sym z))))
-    (row (reads-eq (node 8 p) p 0 (binary percent) (λ z e d i j. ((i, j), ap (λ n. node 8 n ∷ (encodeTerm e ++ encodeTerm d)) (sym z))))
-    (row (reads-lt (node 9 p) p 127 (unary (λ e. get e p)) (λ l e i. ((l, i), refl)))
-    (row (reads-lt (node 10 p) p 127 (binary (λ e d. set e p d)) (λ l e d i j. ((l, i, j), refl)))
+    (row (reads-eq (node 7 p) p 0 (many plus 2) (λ z es i c. ((c, i), ap (λ n. node 7 n ∷ encodeTerms es) (sym z))))
+    (row (reads-eq (node 8 p) p 0 (many percent 2) (λ z es i c. ((c, i), ap (λ n. node 8 n ∷ encodeTerms es) (sym z))))
+    (row (reads-lt (node 9 p) p 127 (many (get p) 1) (λ l es i c. (((l, c), i), refl)))
+    (row (reads-lt (node 10 p) p 127 (many (set p) 2) (λ l es i c. (((l, c), i), refl)))
     (row (reads-lt (node 11 p) p 127 (binary (λ e d. letIn p e d)) (λ l e d i j. ((l, i, j), refl)))
     (row (reads-lt (node 12 p) (p % 128) 127 _ (λ l. reads-lt (node 12 p) (p / 128) 127 (unary (λ e. future (p % 128) (p / 128) e)) (λ b e i. ((l, b, i), ap (λ n. node 12 n ∷ encodeTerm e) (mod-add-div p 128)))))
-    (row (reads-ask 13 call (λ e m es a b c d. ((a, b, c, d), refl)) p)
-    (row (reads-ask 14 send (λ e m es a b c d. ((a, b, c, d), refl)) p)
+    (row (reads-ask 13 call (λ m n es a b i c. (rw c ((a, b), i), rw c refl)) p)
+    (row (reads-ask 14 send (λ m n es a b i c. (rw c ((a, b), i), rw c refl)) p)
     (row (reads-literal Kind.object p)
     (row (reads-literal Kind.isolate p)
     (row (reads-literal Kind.actor p) tt)))))))))))))))))
@@ -133,14 +132,6 @@ module _ (x : ℕ) (h : NameFits x) where
   unfolding headAt headIn heads
   head-var = of-node headIn 6 x small ∙ rw (lt-ltb x 127 h)
 
-  pub head-get : headAt (node 9 x) ≡ unary (λ e. get e x)
-  unfolding headAt headIn heads
-  head-get = of-node headIn 9 x small ∙ rw (lt-ltb x 127 h)
-
-  pub head-set : headAt (node 10 x) ≡ binary (λ e d. set e x d)
-  unfolding headAt headIn heads
-  head-set = of-node headIn 10 x small ∙ rw (lt-ltb x 127 h)
-
   pub head-let : headAt (node 11 x) ≡ binary (λ e d. letIn x e d)
   unfolding headAt headIn heads
   head-let = of-node headIn 11 x small ∙ rw (lt-ltb x 127 h)
@@ -151,25 +142,19 @@ module _ (x : ℕ) (h : NameFits x) where
       let l : x < 128 = omega (arith, h) in
       of-node headIn 12 (x + 128 * y) (omega (arith, h, g)) ∙ rw (pack-low 128 x y l, pack-high 128 x y l, lt-ltb x 127 h, lt-ltb y 127 g)
 
-pub head-plus : headAt (node 7 0) ≡ binary plus
+ask-in : (f : Name → Op Name) (m : Name) (n : ℕ) → NameOk m → n < 8 → askIn f (asked m n) ≡ many (f m) (suc n)
+ask-in f m n h l = rw (asked-count m n h, name-read m n h, lt-ltb n 8 l)
+
+pub head-op : (o : Op Name) (n : ℕ) → OpFits o n → headAt (node (opKind o) (opPayload o n)) ≡ many o n
 unfolding headAt headIn heads
-head-plus = refl
-
-pub head-percent : headAt (node 8 0) ≡ binary percent
-unfolding headAt headIn heads
-head-percent = refl
-
-module _ (m : Name) (n : ℕ) (h : NameOk m) (l : n < 8) where
-  ask-in : (f : Term → Name → Terms → Term) → askIn f (asked m n) ≡ asks (λ e es. f e m es) n
-  ask-in f = rw (asked-count m n h, name-read m n h, lt-ltb n 8 l)
-
-  pub head-call : headAt (node 13 (asked m n)) ≡ asks (λ e es. call e m es) n
-  unfolding headAt headIn heads
-  head-call = of-node headIn 13 (asked m n) (omega (arith, asked-small m n h l)) ∙ ask-in call
-
-  pub head-send : headAt (node 14 (asked m n)) ≡ asks (λ e es. send e m es) n
-  unfolding headAt headIn heads
-  head-send = of-node headIn 14 (asked m n) (omega (arith, asked-small m n h l)) ∙ ask-in send
+head-op plus n h = rw h refl
+head-op percent n h = rw h refl
+head-op (get f) n h = of-node headIn 9 f (small f (h .0)) ∙ rw (lt-ltb f 127 (h .0), h .1)
+head-op (set f) n h = of-node headIn 10 f (small f (h .0)) ∙ rw (lt-ltb f 127 (h .0), h .1)
+head-op (call m) zero h = absurd h
+head-op (call m) (suc n) h = of-node headIn 13 (asked m n) (omega (arith, asked-small m n (h .0) (h .1))) ∙ ask-in call m n (h .0) (h .1)
+head-op (send m) zero h = absurd h
+head-op (send m) (suc n) h = of-node headIn 14 (asked m n) (omega (arith, asked-small m n (h .0) (h .1))) ∙ ask-in send m n (h .0) (h .1)
 
 pub head-literal : (k : Kind) (n m : ℕ) → n < 8 → m < 8 → headAt (node (kindNumber k) (n + 8 * m)) ≡ parts k n m
 unfolding headAt headIn heads kindNumber

@@ -7,7 +7,7 @@ use mathlib.Core.List.{List, _++_}
 use native.Mathlib.Omega.{arith}
 use mathlib.Core.Logic.{_↔_}
 use lib.ListN.{length, drop, getD}
-use Rattle.atlite.specs.Term.{null, Term, Terms, Inits, Methods, countTerms, val, var, plus, percent, get, set, call, send, letIn, future, literal}
+use Rattle.atlite.specs.Term.{null, Term, Terms, Inits, Methods, countTerms, val, var, op, letIn, future, literal}
 use Rattle.layout.specs.Pack.{zeros, pad}
 use Rattle.layout.specs.PackLaws.{pad-front}
 use Rattle.layout.specs.Terms.{countInits, countMethods, encodeTerm, encodeTerms, encodeInits, encodeMethods}
@@ -100,12 +100,7 @@ pub term-words : (e : Term) → 1 ≤ length (encodeTerm e)
 unfolding encodeTerm
 term-words (val v) = omega arith
 term-words (var x) = omega arith
-term-words (plus a b) = omega arith
-term-words (percent a b) = omega arith
-term-words (get e f) = omega arith
-term-words (set e f d) = omega arith
-term-words (call e m es) = omega arith
-term-words (send e m es) = omega arith
+term-words (op o es) = omega arith
 term-words (letIn x e d) = omega arith
 term-words (future x y e) = omega arith
 term-words (literal k fs ms) = omega arith

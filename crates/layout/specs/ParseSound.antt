@@ -9,11 +9,11 @@ use mathlib.Core.Option.{Option, some}
 use borrow.Author.Tests.{ltb-true, ltb-false}
 use lib.Dec.{ltb}
 use lib.ListN.{length, getD, List·getD-eq-default}
-use Rattle.atlite.specs.Term.{Term, literal, Terms, cons, Inits, Methods, method, countTerms}
+use Rattle.atlite.specs.Term.{Term, op, literal, Terms, cons, Inits, Methods, method, countTerms}
 use Rattle.layout.specs.PackLaws.{NameFits}
 use Rattle.layout.specs.Terms.{countInits, countMethods, fieldHeader, methodHeader, encodeTerm, encodeTerms, encodeInits, encodeMethods}
 use Rattle.layout.specs.TermLaws.{Fits, FitsAll, FitsInits, FitsMethods}
-use Rattle.layout.specs.Parse.{Got, none, got, onGot, pair, behind, Head, noHead, leaf, unary, binary, asks, parts, heads, headIn, headAt, fieldAt, methodAt, termsBy, initsBy, methodsBy, formed, parseTerm, parseTerms, parseInits, parseMethods}
+use Rattle.layout.specs.Parse.{Got, none, got, onGot, pair, behind, Head, noHead, leaf, unary, binary, many, parts, heads, headIn, headAt, fieldAt, methodAt, termsBy, initsBy, methodsBy, formed, parseTerm, parseTerms, parseInits, parseMethods}
 use Rattle.layout.specs.ParseWords.{Holding, field-word, MethodIs, method-word}
 use Rattle.layout.specs.ParseHeads.{Is, Reads, head-reads}
 use Rattle.layout.specs.Spans.{Spans, span-none, span-word, span-join}
@@ -109,9 +109,9 @@ module _ (w : List ℕ) (p : ℕ → Got Term) (sound : (at : ℕ) → Ended (Te
   formed-by (binary f) x at r s =
       ended-pair (TermAt w (at + 1)) (λ i. TermAt w i) (TermAt w at) f (p (at + 1)) p (sound (at + 1)) sound
       (λ e i d j h k. is-at w at j (f e d) _ (r e d (h .0) (k .0)) (span-three w x at i j (encodeTerm e) (encodeTerm d) s (h .1) (k .1)))
-  formed-by (asks f n) x at r s =
-      ended-pair (TermAt w (at + 1)) (λ i. TermsAt w n i) (TermAt w at) f (p (at + 1)) (λ i. termsBy p n i) (sound (at + 1)) (λ i. terms-by n i)
-      (λ e i es j h k. is-at w at j (f e es) _ (r e es (h .0) (k .0) (k .1)) (span-three w x at i j (encodeTerm e) (encodeTerms es) s (h .1) (k .2)))
+  formed-by (many o n) x at r s =
+      ended-on (TermsAt w n (at + 1)) (TermAt w at) (op o) (termsBy p n (at + 1)) (terms-by n (at + 1))
+      (λ es i h. is-at w at i (op o es) (x ∷ encodeTerms es) (r es (h .0) (h .1)) (span-join w at (at + 1) i (x ∷ []) (encodeTerms es) s (h .2)))
   formed-by (parts k n m) x at r s =
       ended-pair (InitsAt w n (at + 1)) (λ i. MethodsAt w m i) (TermAt w at) (literal k) (initsBy p w n (at + 1)) (λ i. methodsBy p w m i) (inits-by n (at + 1)) (λ i. methods-by m i)
       (λ fs i ms j h g. is-at w at j (literal k fs ms) _ (r fs ms (h .0) (g .0) (h .1) (g .1)) (span-three w x at i j (encodeInits fs) (encodeMethods ms) s (h .2) (g .2)))

@@ -83,11 +83,11 @@ module _ {E : Type 0} (none : E) (form : ℕ → ℕ → List (Item E) → List 
         → form k p (alone x ∷ alone y ∷ stack none form r) ≡ alone e ∷ stack none form r → stack none form (node k p ∷ ((a ++ b) ++ r)) ≡ alone e ∷ stack none form r
     stack-exprs a b r x y e i j d = stack-lists a b r (alone x ∷ []) (alone y ∷ []) (alone e ∷ stack none form r) i j d
 
-    -- and with one
-    pub stack-expr : (a r : List ℕ) (x e : E) → stack none form (a ++ r) ≡ alone x ∷ stack none form r
-        → form k p (alone x ∷ stack none form r) ≡ alone e ∷ stack none form r → stack none form (node k p ∷ (a ++ r)) ≡ alone e ∷ stack none form r
+    -- and with one list
+    pub stack-list : (a r : List ℕ) (x t : List (Item E)) → stack none form (a ++ r) ≡ x ++ stack none form r
+        → form k p (x ++ stack none form r) ≡ t → stack none form (node k p ∷ (a ++ r)) ≡ t
     unfolding stack
-    stack-expr a r x e i d = ap (push none form (node k p)) i ∙ push-node k p (alone x ∷ stack none form r) l h ∙ d
+    stack-list a r x t i e = ap (push none form (node k p)) i ∙ push-node k p (x ++ stack none form r) l h ∙ e
 
   -- zeros are read as nothing where the kind 0 is
   pub stack-zeros : (form 0 0 [] ≡ []) → (n : ℕ) → stack none form (zeros n) ≡ []

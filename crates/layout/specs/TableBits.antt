@@ -3,20 +3,19 @@ use Prim.Native.Nat.{ℕ, _+_, _*_, _≤_}
 use mathlib.Core.List.{List, [], _∷_}
 use native.Mathlib.Omega.{arith}
 use lib.ListN.{length}
-use Rattle.atlite.specs.Term.{plain}
 use Rattle.atlite.specs.Valid.{isName}
-use Rattle.atlite.specs.Table.{countSrcs, countFields, countMethods, Grammatical, GrammaticalAll, GrammaticalFields, GrammaticalMethods, GrammaticalLines, IsTable, Table}
-use Rattle.atlite.specs.Script.{Src, num, null, var, plus, percent, get, set, call, send, ask, letIn, future, fn, resolve, when, seq, literal, Srcs, nil, cons, SrcFields, noField, field, SrcMethods, noMethod, method, Line, expression, define}
+use Rattle.atlite.specs.Table.{countFields, countMethods, Grammatical, GrammaticalAll, GrammaticalFields, GrammaticalMethods, GrammaticalLines, IsTable, Table}
+use Rattle.atlite.specs.Script.{Src, num, null, var, op, letIn, future, fn, when, literal, Srcs, nil, cons, SrcFields, noField, field, SrcMethods, noMethod, method, Line, expression, define, countSrcs}
 use Rattle.layout.specs.Pack.{pad, flat}
 use Rattle.layout.specs.Terms.{kindNumber}
 use Rattle.layout.specs.Layout.{encodeWord}
-use Rattle.layout.specs.Tables.{encodeSrc, encodeSrcs, encodeFields, encodeSrcMethods, encodeLine, encodeTable}
+use Rattle.layout.specs.Tables.{srcKind, srcPayload, encodeSrc, encodeSrcs, encodeFields, encodeSrcMethods, encodeLine, encodeTable}
 use Rattle.layout.specs.PackLaws.{each-map, NameFits}
 use Rattle.layout.specs.TermLaws.{kind-small}
 use Rattle.layout.specs.Fitting.{each-all, name-fits}
 use Rattle.layout.specs.Whole.{WordFits}
-use Rattle.layout.specs.Bits.{Small, both, pad-small, flat-small, node-small, name-small, asked-word, method-small, header-small, word-small}
-use Rattle.layout.specs.TableReads.{variable-named, two-small}
+use Rattle.layout.specs.Bits.{Small, both, pad-small, flat-small, node-small, name-small, method-small, header-small, word-small}
+use Rattle.layout.specs.TableReads.{variable-named, two-small, src-kind-small, src-payload-small}
 use Rattle.layout.specs.TableFitting.{table-fits}
 
 mutual
@@ -26,26 +25,17 @@ mutual
   src-small null w l h = (omega arith, tt)
   src-small (num n) w l h = (omega (arith, h), tt)
   src-small (var x) w l h = (name-small 6 x (omega arith) (variable-named w l x h), tt)
-  src-small (plus a b) w l h = (omega arith, both (encodeSrc a) (encodeSrc b) (src-small a w l (h .0)) (src-small b w l (h .1)))
-  src-small (percent a b) w l h = (omega arith, both (encodeSrc a) (encodeSrc b) (src-small a w l (h .0)) (src-small b w l (h .1)))
-  src-small (get e f) w l h = (name-small 9 f (omega arith) (name-fits w l f (h .1)), src-small e w l (h .0))
-  src-small (set a f b) w l h = (name-small 10 f (omega arith) (name-fits w l f (h .1)), both (encodeSrc a) (encodeSrc b) (src-small a w l (h .0)) (src-small b w l (h .2)))
+  src-small (op o es) w l h =
+      let n = countSrcs es in
+      (node-small (srcKind o) (srcPayload o n) (omega (arith, src-kind-small o)) (src-payload-small w l o n (h .0)), srcs-small es w l (h .1))
   src-small (letIn x a b) w l h = (name-small 11 x (omega arith) (name-fits w l x (h .0)), both (encodeSrc a) (encodeSrc b) (src-small a w l (h .1)) (src-small b w l (h .2)))
   src-small (future x y e) w l h = (node-small 12 (x + 128 * y) (omega arith) (two-small w l x y (h .0) (h .1)), src-small e w l (h .2))
-  src-small (call e m es) w l h =
-      (asked-word 13 (plain m) (countSrcs es) (omega arith) (name-fits w l m (h .1)) (omega (arith, h .2)), both (encodeSrc e) (encodeSrcs es) (src-small e w l (h .0)) (srcs-small es w l (h .3)))
-  src-small (send e m es) w l h =
-      (asked-word 14 (plain m) (countSrcs es) (omega arith) (name-fits w l m (h .1)) (omega (arith, h .2)), both (encodeSrc e) (encodeSrcs es) (src-small e w l (h .0)) (srcs-small es w l (h .3)))
   src-small (literal k fs ms) w l h = (
     node-small (kindNumber k) (countFields fs + 8 * countMethods ms) (omega (arith, kind-small k)) (omega (arith, h .0, h .2)),
     both (encodeFields fs) (encodeSrcMethods ms) (fields-small fs w l (h .1)) (methods-small ms w l (h .3)),
   )
-  src-small (ask e m es) w l h =
-      (asked-word 64 (plain m) (countSrcs es) (omega arith) (name-fits w l m (h .1)) (omega (arith, h .2)), both (encodeSrc e) (encodeSrcs es) (src-small e w l (h .0)) (srcs-small es w l (h .3)))
   src-small (fn x e) w l h = (name-small 65 x (omega arith) (name-fits w l x (h .0)), src-small e w l (h .1))
-  src-small (resolve a b) w l h = (omega arith, both (encodeSrc a) (encodeSrc b) (src-small a w l (h .0)) (src-small b w l (h .1)))
   src-small (when a x b) w l h = (name-small 67 x (omega arith) (name-fits w l x (h .1)), both (encodeSrc a) (encodeSrc b) (src-small a w l (h .0)) (src-small b w l (h .2)))
-  src-small (seq a b) w l h = (omega arith, both (encodeSrc a) (encodeSrc b) (src-small a w l (h .0)) (src-small b w l (h .1)))
 
   srcs-small : (es : Srcs) (w : ℕ) → w ≤ 64 → GrammaticalAll w es → Small (encodeSrcs es)
   srcs-small nil w l h = tt

@@ -8,7 +8,7 @@ use native.Mathlib.Omega.{arith}
 use lib.ListN.{length, length-append}
 use Rattle.atlite.specs.Base.{done}
 use Rattle.atlite.specs.Table.{GrammaticalLines, IsTable, Table}
-use Rattle.atlite.specs.Script.{Src, num, null, var, plus, percent, get, set, call, send, ask, letIn, future, fn, resolve, when, seq, literal, Srcs, nil, cons, SrcFields, noField, field, SrcMethods, noMethod, method, Line, expression, define, size, sizeAll, sizeFields, sizeMethods, join}
+use Rattle.atlite.specs.Script.{seq, Src, num, null, var, op, letIn, future, fn, when, literal, Srcs, nil, cons, SrcFields, noField, field, SrcMethods, noMethod, method, Line, expression, define, size, sizeAll, sizeFields, sizeMethods, join}
 use Rattle.atlite.specs.Facts.{refused-done}
 use Rattle.reading.specs.Exact.{table-count, table-words}
 use Rattle.layout.specs.Pack.{flat}
@@ -26,20 +26,12 @@ mutual
   src-length null = omega arith
   src-length (num n) = omega arith
   src-length (var x) = omega arith
-  src-length (plus a b) = rw (length-append (encodeSrc a) (encodeSrc b)) (omega (arith, src-length a, src-length b))
-  src-length (percent a b) = rw (length-append (encodeSrc a) (encodeSrc b)) (omega (arith, src-length a, src-length b))
-  src-length (get e f) = omega (arith, src-length e)
-  src-length (set a f b) = rw (length-append (encodeSrc a) (encodeSrc b)) (omega (arith, src-length a, src-length b))
+  src-length (op o es) = omega (arith, srcs-length es)
   src-length (letIn x a b) = rw (length-append (encodeSrc a) (encodeSrc b)) (omega (arith, src-length a, src-length b))
   src-length (future x y e) = omega (arith, src-length e)
-  src-length (call e m es) = rw (length-append (encodeSrc e) (encodeSrcs es)) (omega (arith, src-length e, srcs-length es))
-  src-length (send e m es) = rw (length-append (encodeSrc e) (encodeSrcs es)) (omega (arith, src-length e, srcs-length es))
   src-length (literal k fs ms) = rw (length-append (encodeFields fs) (encodeSrcMethods ms)) (omega (arith, fields-length fs, methods-length ms))
-  src-length (ask e m es) = rw (length-append (encodeSrc e) (encodeSrcs es)) (omega (arith, src-length e, srcs-length es))
   src-length (fn x e) = omega (arith, src-length e)
-  src-length (resolve a b) = rw (length-append (encodeSrc a) (encodeSrc b)) (omega (arith, src-length a, src-length b))
   src-length (when a x b) = rw (length-append (encodeSrc a) (encodeSrc b)) (omega (arith, src-length a, src-length b))
-  src-length (seq a b) = rw (length-append (encodeSrc a) (encodeSrc b)) (omega (arith, src-length a, src-length b))
 
   srcs-length : (es : Srcs) → length (encodeSrcs es) ≤ 2 * sizeAll es
   srcs-length nil = omega arith
@@ -63,8 +55,8 @@ lines-length (expression d ∷ []) e j =
     (omega (arith, src-length d, ap size z), omega (arith, src-length d, ap size z))
 lines-length (define x d ∷ []) e j = absurd (refused-done j)
 lines-length (expression d ∷ l ∷ ls) e j =
-    let q = bind-done (join (l ∷ ls)) (λ b. done (seq d b)) e j in
-    let z : seq d (q .0) ≡ e = done-same (seq d (q .0)) e (q .2) in
+    let q = bind-done (join (l ∷ ls)) (λ b. done (op seq (cons d (cons b nil)))) e j in
+    let z : op seq (cons d (cons (q .0) nil)) ≡ e = done-same (op seq (cons d (cons (q .0) nil))) e (q .2) in
     let i = lines-length (l ∷ ls) (q .0) (q .1) in
     let n = length-append (encodeSrc d) (flat encodeLine (l ∷ ls)) in
     (omega (arith, src-length d, ap size z, i .0), omega (arith, src-length d, ap size z, i .1))

@@ -1,23 +1,25 @@
 -- The table that words are. Assumes nothing; nothing here need be believed but `tableOf`, and that by its law alone
 -- (`table-of-iff` of `TableLaws`).
 -- There is no second test of what a table is: the text of what was read is read again, and the words of that are compared.
-use Prim.Native.Nat.{ℕ, _-_, _/_, _%_}
+use Prim.Native.Nat.{ℕ, suc, _-_, _/_, _%_}
 use mathlib.Core.Bool.{cond}
 use mathlib.Core.List.{List, [], _∷_, map}
 use mathlib.Core.Option.{Option, none, some}
 use lib.ListN.{drop, getD}
 use lib.Dec.{ltb}
 use Rattle.atlite.specs.Base.{Result, done, refused, sameBytes, if_then_else_}
-use Rattle.atlite.specs.Term.{Kind}
+use Rattle.atlite.specs.Term.{plus, percent, get, set, call, send, Kind}
 use Rattle.atlite.specs.Table.{textOf, Table, read}
-use Rattle.atlite.specs.Script.{Src, num, null, var, plus, percent, get, set, call, send, ask, letIn, future, fn, resolve, when, seq, literal, Srcs, nil, cons, noField, field, noMethod, method, Line, expression, define}
+use Rattle.atlite.specs.Script.{SrcOp, kept, ask, resolve, seq, Src, num, null, var, op, letIn, future, fn, when, literal, nil, cons, noField, field, noMethod, method, Line, expression, define}
 use Rattle.layout.specs.Reading.{cut, Item, alone, aField, aDefinition, aMethod, exprOf, fieldOf, methodOf, gather, first, stack}
 use Rattle.layout.specs.Decode.{decodeWord}
 use Rattle.layout.specs.Tables.{encodeTable}
 
-abbrev pub askedIn : (Src → ℕ → Srcs → Src) → ℕ → List (Item Src) → List (Item Src)
-askedIn f p s =
-    alone (f (first null s) (p % 128) (gather (exprOf cons) nil (p / 128 / 4) (drop 1 s))) ∷ drop (p / 128 / 4) (drop 1 s)
+abbrev pub opIn : SrcOp → ℕ → List (Item Src) → List (Item Src)
+opIn o n s = alone (op o (gather (exprOf cons) nil n s)) ∷ drop n s
+
+abbrev pub askedIn : (ℕ → SrcOp) → ℕ → List (Item Src) → List (Item Src)
+askedIn f p s = opIn (f (p % 128)) (suc (p / 128 / 4)) s
 
 abbrev pub literalIn : Kind → ℕ → List (Item Src) → List (Item Src)
 literalIn k p s =
@@ -37,14 +39,14 @@ plainForms p s =
     ∷ s
     ∷ s
     ∷ (alone (var p) ∷ s)
-    ∷ twoIn plus s
-    ∷ twoIn percent s
-    ∷ (alone (get (first null s) p) ∷ drop 1 s)
-    ∷ twoIn (λ e d. set e p d) s
+    ∷ opIn (kept plus) 2 s
+    ∷ opIn (kept percent) 2 s
+    ∷ opIn (kept (get p)) 1 s
+    ∷ opIn (kept (set p)) 2 s
     ∷ twoIn (letIn p) s
     ∷ (alone (future (p % 128) (p / 128) (first null s)) ∷ drop 1 s)
-    ∷ askedIn call p s
-    ∷ askedIn send p s
+    ∷ askedIn (λ m. kept (call m)) p s
+    ∷ askedIn (λ m. kept (send m)) p s
     ∷ literalIn Kind.object p s
     ∷ literalIn Kind.isolate p s
     ∷ literalIn Kind.actor p s
@@ -54,9 +56,9 @@ unfoldable pub scriptForms : ℕ → List (Item Src) → List (List (Item Src))
 scriptForms p s =
     askedIn ask p s
     ∷ (alone (fn p (first null s)) ∷ drop 1 s)
-    ∷ twoIn resolve s
+    ∷ opIn resolve 2 s
     ∷ twoIn (λ e d. when e p d) s
-    ∷ twoIn seq s
+    ∷ opIn seq 2 s
     ∷ []
 
 unfoldable pub srcForm : ℕ → ℕ → List (Item Src) → List (Item Src)

@@ -1,6 +1,6 @@
 -- Reading the words of a table's lines gives the lines. By induction on the expressions, which are those of the grammar in a
 -- script with w words, at most 64 of them: so names and counts fit their bits. Assumes nothing.
-use Prim.Native.Nat.{ℕ, _+_, _*_, _≤_, _<_}
+use Prim.Native.Nat.{ℕ, suc, _+_, _*_, _≤_, _<_}
 use mathlib.Core.Path.{_≡_, refl, ap, _∙_}
 use mathlib.Core.Bool.{Bool, true, false, _||_}
 use mathlib.Core.List.{List, [], _∷_, _++_, map}
@@ -8,19 +8,20 @@ use native.Mathlib.Omega.{arith}
 use borrow.Author.Tests.{eqb-true}
 use lib.ListN.{drop}
 use lib.Dec.{eqb}
-use Rattle.atlite.specs.Term.{this, Kind, plain}
+use Rattle.atlite.specs.Term.{this, Kind, plain, plus, percent, get, set, call, send, written, shape, sending}
 use Rattle.atlite.specs.Valid.{isName}
-use Rattle.atlite.specs.Table.{countSrcs, countFields, countMethods, Named, Grammatical, GrammaticalAll, GrammaticalFields, GrammaticalMethods, GrammaticalLines}
-use Rattle.atlite.specs.Script.{Src, num, null, var, plus, percent, get, set, call, send, ask, letIn, future, fn, resolve, when, seq, literal, Srcs, nil, cons, SrcFields, noField, field, SrcMethods, noMethod, method, Line, expression, define}
+use Rattle.atlite.specs.Table.{countFields, countMethods, Named, Grammatical, GrammaticalAll, GrammaticalFields, GrammaticalMethods, GrammaticalLines, writable}
+use Rattle.atlite.specs.Script.{SrcOp, kept, ask, resolve, seq, Src, num, null, var, op, letIn, future, fn, when, literal, Srcs, nil, cons, SrcFields, noField, field, SrcMethods, noMethod, method, Line, expression, define, countSrcs}
 use Rattle.layout.specs.Pack.{node, zeros, flat}
-use Rattle.layout.specs.Terms.{tagged, asked, kindNumber, fieldHeader, methodHeader}
-use Rattle.layout.specs.Tables.{encodeSrc, encodeSrcs, encodeFields, encodeSrcMethods, encodeLine}
+use Rattle.layout.specs.Terms.{tagged, asked, arguments, kindNumber, fieldHeader, methodHeader}
+use Rattle.layout.specs.Tables.{srcKind, srcPayload, encodeSrc, encodeSrcs, encodeFields, encodeSrcMethods, encodeLine}
 use Rattle.layout.specs.Reading.{Item, alone, aField, aMethod, exprOf, fieldOf, methodOf, gather, push, stack}
-use Rattle.layout.specs.TableReading.{askedIn, literalIn, plainForms, scriptForms, srcForm, srcStack, lineIn}
+use Rattle.layout.specs.TableReading.{opIn, askedIn, literalIn, plainForms, scriptForms, srcForm, srcStack, lineIn}
 use Rattle.layout.specs.PackLaws.{pack-low, pack-high, first-digit, third-digit, NameFits}
-use Rattle.layout.specs.ReadLaws.{push-node, push-field, push-definition, push-method, stack-two, stack-headed, stack-lists, stack-exprs, stack-expr, stack-zeros}
-use Rattle.layout.specs.TermLaws.{kind-small}
-use Rattle.layout.specs.Fitting.{each-all, name-fits}
+use Rattle.layout.specs.ReadLaws.{push-node, push-field, push-definition, push-method, stack-two, stack-headed, stack-list, stack-lists, stack-exprs, stack-zeros}
+use Rattle.layout.specs.TermLaws.{op-kind-small, kind-small, OpFits}
+use Rattle.layout.specs.TermReads.{label-small}
+use Rattle.layout.specs.Fitting.{each-all, name-fits, shape-fits}
 
 -- ---- names
 module _ (w : ℕ) (l : w ≤ 64) where
@@ -36,10 +37,6 @@ module _ (w : ℕ) (l : w ≤ 64) where
 
   pub two-small : (x y : ℕ) → Named w x → Named w y → x + 128 * y < 16777216
   two-small x y h g = omega (arith, name-fits w l x h, name-fits w l y g)
-
-  pub asked-fits : (m n : ℕ) → Named w m → n ≤ 3 → asked (plain m) n < 16777216
-  unfolding tagged
-  asked-fits m n h g = omega (arith, name-fits w l m h)
 
 -- ---- what a list leaves on the stack
 unfoldable pub srcItems : Srcs → List (Item Src)
@@ -96,13 +93,43 @@ mutual
   methods-past noMethod s = refl
   methods-past (method m xs e ms) s = methods-past ms s
 
-asked-in : (f : Src → ℕ → Srcs → Src) (e : Src) (m : ℕ) (es : Srcs) (s : List (Item Src)) → NameFits m
-    → askedIn f (asked (plain m) (countSrcs es)) (alone e ∷ (srcItems es ++ s)) ≡ alone (f e m es) ∷ s
-unfolding tagged
-asked-in f e m es s h =
-    let l : m < 128 = omega (arith, h) in
+-- ---- operators
+pub src-kind-small : (o : SrcOp) → srcKind o < 128
+src-kind-small (kept o) = omega (arith, op-kind-small o)
+src-kind-small (ask m) = omega arith
+src-kind-small resolve = omega arith
+src-kind-small seq = omega arith
+
+pub src-payload-small : (w : ℕ) → w ≤ 64 → (o : SrcOp) (n : ℕ) → writable w o n ≡ true → srcPayload o n < 16777216
+src-payload-small w l (kept o) n h = label-small (shape (written o)) n (shape-fits w l (shape (written o)) n h)
+src-payload-small w l (ask m) n h = label-small (sending (plain m)) n (shape-fits w l (sending (plain m)) n h)
+src-payload-small w l resolve n h = omega arith
+src-payload-small w l seq n h = omega arith
+
+op-in : (o : SrcOp) (n : ℕ) (es : Srcs) (s : List (Item Src)) → countSrcs es ≡ n → opIn o n (srcItems es ++ s) ≡ alone (op o es) ∷ s
+op-in o n es s h = rw (← h, srcs-in es s, srcs-past es s)
+
+asked-in : (f : ℕ → SrcOp) (m : ℕ) (es : Srcs) (s : List (Item Src)) → OpFits (send (plain m)) (countSrcs es)
+    → askedIn f (asked (plain m) (arguments (countSrcs es))) (srcItems es ++ s) ≡ alone (op (f m) es) ∷ s
+unfolding tagged countSrcs
+asked-in f m nil s h = absurd h
+asked-in f m (cons e es) s h =
+    let l : m < 128 = omega (arith, h .0) in
     let n = countSrcs es in
-    rw (first-digit m 0 n l (omega arith), third-digit m 0 n l (omega arith), srcs-in es s, srcs-past es s)
+    rw (first-digit m 0 n l (omega arith), third-digit m 0 n l (omega arith)) (op-in (f m) (suc n) (cons e es) s refl)
+
+op-form : (w : ℕ) → w ≤ 64 → (o : SrcOp) (es : Srcs) (s : List (Item Src)) → writable w o (countSrcs es) ≡ true
+    → srcForm (srcKind o) (srcPayload o (countSrcs es)) (srcItems es ++ s) ≡ alone (op o es) ∷ s
+unfolding srcForm plainForms scriptForms
+op-form w l (kept plus) es s h = op-in (kept plus) 2 es s (shape-fits w l (shape plus) (countSrcs es) h)
+op-form w l (kept percent) es s h = op-in (kept percent) 2 es s (shape-fits w l (shape percent) (countSrcs es) h)
+op-form w l (kept (get f)) es s h = op-in (kept (get f)) 1 es s (shape-fits w l (shape (get f)) (countSrcs es) h .1)
+op-form w l (kept (set f)) es s h = op-in (kept (set f)) 2 es s (shape-fits w l (shape (set f)) (countSrcs es) h .1)
+op-form w l (kept (call m)) es s h = asked-in (λ m. kept (call m)) m es s (shape-fits w l (shape (call (plain m))) (countSrcs es) h)
+op-form w l (kept (send m)) es s h = asked-in (λ m. kept (send m)) m es s (shape-fits w l (shape (send (plain m))) (countSrcs es) h)
+op-form w l (ask m) es s h = asked-in ask m es s (shape-fits w l (shape (send (plain m))) (countSrcs es) h)
+op-form w l resolve es s h = op-in resolve 2 es s (eqb-true (countSrcs es) 2 h)
+op-form w l seq es s h = op-in seq 2 es s (eqb-true (countSrcs es) 2 h)
 
 literal-in : (k : Kind) (fs : SrcFields) (ms : SrcMethods) (s : List (Item Src)) → countFields fs ≤ 4
     → literalIn k (countFields fs + 8 * countMethods ms) (fieldItems fs ++ (methodItems ms ++ s)) ≡ alone (literal k fs ms) ∷ s
@@ -136,36 +163,19 @@ mutual
   read-src null w r l h = push-node null srcForm 1 0 (srcStack r) (omega arith) (omega arith)
   read-src (num n) w r l h = push-node null srcForm 2 n (srcStack r) (omega (arith, h)) (omega arith)
   read-src (var x) w r l h = push-node null srcForm 6 x (srcStack r) (omega (arith, variable-named w l x h)) (omega arith)
-  read-src (plus a b) w r l h =
-      stack-exprs null srcForm 7 0 (omega arith) (omega arith) (encodeSrc a) (encodeSrc b) r a b (plus a b) (read-src a w (encodeSrc b ++ r) l (h .0)) (read-src b w r l (h .1)) refl
-  read-src (percent a b) w r l h =
-      stack-exprs null srcForm 8 0 (omega arith) (omega arith) (encodeSrc a) (encodeSrc b) r a b (percent a b) (read-src a w (encodeSrc b ++ r) l (h .0)) (read-src b w r l (h .1)) refl
-  read-src (get e f) w r l h = stack-expr null srcForm 9 f (omega arith) (named-small w l f (h .1)) (encodeSrc e) r e (get e f) (read-src e w r l (h .0)) refl
-  read-src (set a f b) w r l h =
-      stack-exprs null srcForm 10 f (omega arith) (named-small w l f (h .1)) (encodeSrc a) (encodeSrc b) r a b (set a f b) (read-src a w (encodeSrc b ++ r) l (h .0)) (read-src b w r l (h .2)) refl
+  read-src (op o es) w r l h =
+      let n = countSrcs es in
+      stack-list null srcForm (srcKind o) (srcPayload o n) (src-kind-small o) (src-payload-small w l o n (h .0)) (encodeSrcs es) r (srcItems es) _ (read-srcs es w r l (h .1)) (op-form w l o es (srcStack r) (h .0))
   read-src (letIn x a b) w r l h =
       stack-exprs null srcForm 11 x (omega arith) (named-small w l x (h .0)) (encodeSrc a) (encodeSrc b) r a b (letIn x a b) (read-src a w (encodeSrc b ++ r) l (h .1)) (read-src b w r l (h .2)) refl
   read-src (future x y e) w r l h =
-      stack-expr null srcForm 12 (x + 128 * y) (omega arith) (two-small w l x y (h .0) (h .1)) (encodeSrc e) r e (future x y e) (read-src e w r l (h .2)) (future-form x y e (srcStack r) (name-fits w l x (h .0)))
-  read-src (call e m es) w r l h =
-      stack-lists null srcForm 13 (asked (plain m) (countSrcs es)) (omega arith) (asked-fits w l m (countSrcs es) (h .1) (h .2)) (encodeSrc e) (encodeSrcs es) r (alone e ∷ []) (srcItems es) _
-      (read-src e w (encodeSrcs es ++ r) l (h .0)) (read-srcs es w r l (h .3)) (asked-in call e m es (srcStack r) (name-fits w l m (h .1)))
-  read-src (send e m es) w r l h =
-      stack-lists null srcForm 14 (asked (plain m) (countSrcs es)) (omega arith) (asked-fits w l m (countSrcs es) (h .1) (h .2)) (encodeSrc e) (encodeSrcs es) r (alone e ∷ []) (srcItems es) _
-      (read-src e w (encodeSrcs es ++ r) l (h .0)) (read-srcs es w r l (h .3)) (asked-in send e m es (srcStack r) (name-fits w l m (h .1)))
+      stack-list null srcForm 12 (x + 128 * y) (omega arith) (two-small w l x y (h .0) (h .1)) (encodeSrc e) r (alone e ∷ []) _ (read-src e w r l (h .2)) (future-form x y e (srcStack r) (name-fits w l x (h .0)))
   read-src (literal k fs ms) w r l h =
       stack-lists null srcForm (kindNumber k) (countFields fs + 8 * countMethods ms) (omega (arith, kind-small k)) (omega (arith, h .0, h .2)) (encodeFields fs) (encodeSrcMethods ms) r (fieldItems fs) (methodItems ms) _
       (read-fields fs w (encodeSrcMethods ms ++ r) l (h .1)) (read-methods ms w r l (h .3)) (literal-form k fs ms (srcStack r) (h .0))
-  read-src (ask e m es) w r l h =
-      stack-lists null srcForm 64 (asked (plain m) (countSrcs es)) (omega arith) (asked-fits w l m (countSrcs es) (h .1) (h .2)) (encodeSrc e) (encodeSrcs es) r (alone e ∷ []) (srcItems es) _
-      (read-src e w (encodeSrcs es ++ r) l (h .0)) (read-srcs es w r l (h .3)) (asked-in ask e m es (srcStack r) (name-fits w l m (h .1)))
-  read-src (fn x e) w r l h = stack-expr null srcForm 65 x (omega arith) (named-small w l x (h .0)) (encodeSrc e) r e (fn x e) (read-src e w r l (h .1)) refl
-  read-src (resolve a b) w r l h =
-      stack-exprs null srcForm 66 0 (omega arith) (omega arith) (encodeSrc a) (encodeSrc b) r a b (resolve a b) (read-src a w (encodeSrc b ++ r) l (h .0)) (read-src b w r l (h .1)) refl
+  read-src (fn x e) w r l h = stack-list null srcForm 65 x (omega arith) (named-small w l x (h .0)) (encodeSrc e) r (alone e ∷ []) _ (read-src e w r l (h .1)) refl
   read-src (when a x b) w r l h =
       stack-exprs null srcForm 67 x (omega arith) (named-small w l x (h .1)) (encodeSrc a) (encodeSrc b) r a b (when a x b) (read-src a w (encodeSrc b ++ r) l (h .0)) (read-src b w r l (h .2)) refl
-  read-src (seq a b) w r l h =
-      stack-exprs null srcForm 68 0 (omega arith) (omega arith) (encodeSrc a) (encodeSrc b) r a b (seq a b) (read-src a w (encodeSrc b ++ r) l (h .0)) (read-src b w r l (h .1)) refl
 
   read-srcs : (es : Srcs) (w : ℕ) (r : List ℕ) → w ≤ 64 → GrammaticalAll w es → srcStack (encodeSrcs es ++ r) ≡ srcItems es ++ srcStack r
   read-srcs nil w r l h = refl

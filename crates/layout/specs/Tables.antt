@@ -5,32 +5,36 @@
 use Prim.Native.Nat.{ℕ, _+_, _*_}
 use mathlib.Core.List.{List, [], _∷_, _++_}
 use lib.ListN.{length}
-use Rattle.atlite.specs.Term.{plain}
-use Rattle.atlite.specs.Table.{countSrcs, countFields, countMethods, Table}
-use Rattle.atlite.specs.Script.{Src, num, null, var, plus, percent, get, set, call, send, ask, letIn, future, fn, resolve, when, seq, literal, Srcs, nil, cons, SrcFields, noField, field, SrcMethods, noMethod, method, Line, expression, define}
+use Rattle.atlite.specs.Term.{plain, written}
+use Rattle.atlite.specs.Table.{countFields, countMethods, Table}
+use Rattle.atlite.specs.Script.{SrcOp, kept, ask, resolve, seq, Src, num, null, var, op, letIn, future, fn, when, literal, Srcs, nil, cons, SrcFields, noField, field, SrcMethods, noMethod, method, Line, expression, define, countSrcs}
 use Rattle.layout.specs.Pack.{node, pad, flat}
-use Rattle.layout.specs.Terms.{variable, asked, kindNumber, fieldHeader, methodHeader}
+use Rattle.layout.specs.Terms.{variable, asked, arguments, opKind, opPayload, kindNumber, fieldHeader, methodHeader}
 use Rattle.layout.specs.Layout.{encodeWord}
+
+abbrev pub srcKind : SrcOp → ℕ
+srcKind (kept o) = opKind o
+srcKind (ask m) = 64
+srcKind resolve = 66
+srcKind seq = 68
+
+abbrev pub srcPayload : SrcOp → ℕ → ℕ
+srcPayload (kept o) n = opPayload (written o) n
+srcPayload (ask m) n = asked (plain m) (arguments n)
+srcPayload resolve n = 0
+srcPayload seq n = 0
 
 unfoldable mutual
   pub encodeSrc : Src → List ℕ
   encodeSrc null = node 1 0 ∷ []
   encodeSrc (num n) = node 2 n ∷ []
   encodeSrc (var x) = variable x ∷ []
-  encodeSrc (plus a b) = node 7 0 ∷ (encodeSrc a ++ encodeSrc b)
-  encodeSrc (percent a b) = node 8 0 ∷ (encodeSrc a ++ encodeSrc b)
-  encodeSrc (get e f) = node 9 f ∷ encodeSrc e
-  encodeSrc (set e f d) = node 10 f ∷ (encodeSrc e ++ encodeSrc d)
+  encodeSrc (op o es) = node (srcKind o) (srcPayload o (countSrcs es)) ∷ encodeSrcs es
   encodeSrc (letIn x e d) = node 11 x ∷ (encodeSrc e ++ encodeSrc d)
   encodeSrc (future x y e) = node 12 (x + 128 * y) ∷ encodeSrc e
-  encodeSrc (call e m es) = node 13 (asked (plain m) (countSrcs es)) ∷ (encodeSrc e ++ encodeSrcs es)
-  encodeSrc (send e m es) = node 14 (asked (plain m) (countSrcs es)) ∷ (encodeSrc e ++ encodeSrcs es)
   encodeSrc (literal k fs ms) = node (kindNumber k) (countFields fs + 8 * countMethods ms) ∷ (encodeFields fs ++ encodeSrcMethods ms)
-  encodeSrc (ask e m es) = node 64 (asked (plain m) (countSrcs es)) ∷ (encodeSrc e ++ encodeSrcs es)
   encodeSrc (fn x e) = node 65 x ∷ encodeSrc e
-  encodeSrc (resolve e d) = node 66 0 ∷ (encodeSrc e ++ encodeSrc d)
   encodeSrc (when e x d) = node 67 x ∷ (encodeSrc e ++ encodeSrc d)
-  encodeSrc (seq a b) = node 68 0 ∷ (encodeSrc a ++ encodeSrc b)
 
   pub encodeSrcs : Srcs → List ℕ
   encodeSrcs nil = []

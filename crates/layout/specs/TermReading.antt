@@ -2,7 +2,7 @@
 use Prim.Native.Nat.{ℕ, zero, suc, _/_, _%_}
 use mathlib.Core.List.{List, [], _∷_}
 use lib.ListN.{drop, getD}
-use Rattle.atlite.specs.Term.{Series, made, copied, Value, null, num, ref, Name, plain, twoWay, resolve, register, Kind, Term, val, var, plus, percent, get, set, call, send, letIn, future, literal, Terms, nil, cons, Inits, noField, Methods, noMethod, method}
+use Rattle.atlite.specs.Term.{Series, made, copied, Value, null, num, ref, Name, plain, twoWay, resolve, register, Op, plus, percent, get, set, call, send, Kind, Term, val, var, op, letIn, future, literal, Terms, nil, cons, Inits, noField, Methods, noMethod, method}
 use Rattle.layout.specs.Reading.{Item, alone, exprOf, fieldOf, methodOf, gather, first, stack}
 
 abbrev pub termsIn : ℕ → List (Item Term) → Terms
@@ -30,9 +30,11 @@ refIn p = ref (p / 65536 / 2) (seriesIn (p / 65536 % 2)) (p % 65536)
 abbrev pub none : Term
 none = val null
 
-abbrev pub askedIn : (Term → Name → Terms → Term) → ℕ → List (Item Term) → List (Item Term)
-askedIn f p s =
-    alone (f (first none s) (nameIn (p / 128 % 4) (p % 128)) (termsIn (p / 128 / 4) (drop 1 s))) ∷ drop (p / 128 / 4) (drop 1 s)
+abbrev pub opIn : Op Name → ℕ → List (Item Term) → List (Item Term)
+opIn o n s = alone (op o (termsIn n s)) ∷ drop n s
+
+abbrev pub askedIn : (Name → Op Name) → ℕ → List (Item Term) → List (Item Term)
+askedIn f p s = opIn (f (nameIn (p / 128 % 4) (p % 128))) (suc (p / 128 / 4)) s
 
 abbrev pub literalIn : Kind → ℕ → List (Item Term) → List (Item Term)
 literalIn k p s = alone (literal k (initsIn (p % 8) s) (methodsIn (p / 8) (drop (p % 8) s))) ∷ drop (p / 8) (drop (p % 8) s)
@@ -47,10 +49,10 @@ termForms p s =
     ∷ s
     ∷ s
     ∷ (alone (var p) ∷ s)
-    ∷ (alone (plus (first none s) (first none (drop 1 s))) ∷ drop 2 s)
-    ∷ (alone (percent (first none s) (first none (drop 1 s))) ∷ drop 2 s)
-    ∷ (alone (get (first none s) p) ∷ drop 1 s)
-    ∷ (alone (set (first none s) p (first none (drop 1 s))) ∷ drop 2 s)
+    ∷ opIn plus 2 s
+    ∷ opIn percent 2 s
+    ∷ opIn (get p) 1 s
+    ∷ opIn (set p) 2 s
     ∷ (alone (letIn p (first none s) (first none (drop 1 s))) ∷ drop 2 s)
     ∷ (alone (future (p % 128) (p / 128) (first none s)) ∷ drop 1 s)
     ∷ askedIn call p s

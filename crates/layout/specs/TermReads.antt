@@ -1,18 +1,18 @@
 -- Reading the words of a term gives the term, if it fits. By induction on the term: its words leave it on top of what the words
 -- behind it leave. Assumes nothing.
-use Prim.Native.Nat.{ℕ, _+_, _-_, _*_, _≤_, _<_, _/_, _%_}
+use Prim.Native.Nat.{ℕ, zero, suc, _+_, _-_, _*_, _≤_, _<_, _/_, _%_}
 use mathlib.Core.Path.{_≡_, refl, ap, ap₂, _∙_}
 use mathlib.Core.List.{List, [], _∷_, _++_}
 use native.Mathlib.Omega.{arith}
 use lib.ListN.{length, drop}
-use Rattle.atlite.specs.Term.{Series, made, copied, Value, null, num, ref, Name, plain, twoWay, resolve, register, Kind, Term, val, var, plus, percent, get, set, call, send, letIn, future, literal, Terms, nil, cons, Inits, noField, Methods, noMethod, method, countTerms}
+use Rattle.atlite.specs.Term.{Series, made, copied, Value, null, num, ref, Name, plain, twoWay, resolve, register, Op, plus, percent, get, set, call, send, Shape, exactly, onField, calling, sending, shape, Kind, Term, val, var, op, letIn, future, literal, Terms, nil, cons, Inits, noField, Methods, noMethod, method, countTerms}
 use Rattle.layout.specs.Pack.{zeros, pad}
-use Rattle.layout.specs.Terms.{countInits, countMethods, seriesBit, encodeValue, tagged, asked, kindNumber, fieldHeader, methodHeader, encodeTerm, encodeTerms, encodeInits, encodeMethods}
+use Rattle.layout.specs.Terms.{countInits, countMethods, seriesBit, encodeValue, tagged, asked, labelNumber, opKind, opPayload, kindNumber, fieldHeader, methodHeader, encodeTerm, encodeTerms, encodeInits, encodeMethods}
 use Rattle.layout.specs.Reading.{Item, alone, aField, aMethod, gather, first, push, stack}
-use Rattle.layout.specs.TermReading.{termsIn, initsIn, methodsIn, nameIn, refIn, none, askedIn, literalIn, termForms, termForm, termStack, termAt, decodeValue}
+use Rattle.layout.specs.TermReading.{termsIn, initsIn, methodsIn, nameIn, refIn, none, opIn, literalIn, termForms, termForm, termStack, termAt, decodeValue}
 use Rattle.layout.specs.PackLaws.{pack-low, pack-high, first-digit, second-digit, third-digit, NameFits}
-use Rattle.layout.specs.ReadLaws.{push-node, push-field, push-method, stack-two, stack-headed, stack-lists, stack-exprs, stack-expr, stack-zeros}
-use Rattle.layout.specs.TermLaws.{kind-small, ValueFits, NameOk, Fits, FitsAll, FitsInits, FitsMethods}
+use Rattle.layout.specs.ReadLaws.{push-node, push-field, push-method, stack-two, stack-headed, stack-list, stack-lists, stack-exprs, stack-zeros}
+use Rattle.layout.specs.TermLaws.{op-kind-small, kind-small, ValueFits, NameOk, ShapeFits, OpFits, Fits, FitsAll, FitsInits, FitsMethods}
 
 -- ---- values
 pub ref-back : (a : ℕ) (s : Series) (n : ℕ) → ValueFits (ref a s n) → refIn (n + 65536 * (seriesBit s + 2 * a)) ≡ ref a s n
@@ -128,9 +128,27 @@ mutual
   methods-past (method m xs e ms) s = methods-past ms s
 
 -- ---- the forms whose payload has digits
-module _ (m : Name) (es : Terms) (s : List (Item Term)) (h : NameOk m) where
-  asked-in : (f : Term → Name → Terms → Term) (e : Term) → askedIn f (asked m (countTerms es)) (alone e ∷ (termItems es ++ s)) ≡ alone (f e m es) ∷ s
-  asked-in f e = let n = countTerms es in rw (asked-name m n h, asked-count m n h, terms-in es s, terms-past es s)
+pub label-small : (s : Shape Name) (n : ℕ) → ShapeFits s n → labelNumber asked s n < 16777216
+label-small (exactly k) n h = omega arith
+label-small (onField f k) n h = omega (arith, h .0)
+label-small (calling m) zero h = absurd h
+label-small (calling m) (suc n) h = omega (arith, asked-small m n (h .0) (h .1))
+label-small (sending m) zero h = absurd h
+label-small (sending m) (suc n) h = omega (arith, asked-small m n (h .0) (h .1))
+
+op-in : (o : Op Name) (n : ℕ) (es : Terms) (s : List (Item Term)) → countTerms es ≡ n → opIn o n (termItems es ++ s) ≡ alone (op o es) ∷ s
+op-in o n es s h = rw (← h, terms-in es s, terms-past es s)
+
+op-form : (o : Op Name) (es : Terms) (s : List (Item Term)) → OpFits o (countTerms es) → termForm (opKind o) (opPayload o (countTerms es)) (termItems es ++ s) ≡ alone (op o es) ∷ s
+unfolding termForms termForm countTerms
+op-form plus es s h = op-in plus 2 es s h
+op-form percent es s h = op-in percent 2 es s h
+op-form (get f) es s h = op-in (get f) 1 es s (h .1)
+op-form (set f) es s h = op-in (set f) 2 es s (h .1)
+op-form (call m) nil s h = absurd h
+op-form (call m) (cons e es) s h = let n = countTerms es in rw (asked-name m n (h .0), asked-count m n (h .0)) (op-in (call m) (suc n) (cons e es) s refl)
+op-form (send m) nil s h = absurd h
+op-form (send m) (cons e es) s h = let n = countTerms es in rw (asked-name m n (h .0), asked-count m n (h .0)) (op-in (send m) (suc n) (cons e es) s refl)
 
 literal-in : (k : Kind) (fs : Inits) (ms : Methods) (s : List (Item Term)) → countInits fs < 8
     → literalIn k (countInits fs + 8 * countMethods ms) (initItems fs ++ (methodItems ms ++ s)) ≡ alone (literal k fs ms) ∷ s
@@ -162,23 +180,13 @@ mutual
   pub read-term : (e : Term) (r : List ℕ) → Fits e → termStack (encodeTerm e ++ r) ≡ alone e ∷ termStack r
   read-term (val v) r h = push-value v (termStack r) h
   read-term (var x) r h = push-node none termForm 6 x (termStack r) (omega (arith, h)) (omega arith)
-  read-term (plus a b) r h =
-      stack-exprs none termForm 7 0 (omega arith) (omega arith) (encodeTerm a) (encodeTerm b) r a b (plus a b) (read-term a (encodeTerm b ++ r) (h .0)) (read-term b r (h .1)) refl
-  read-term (percent a b) r h =
-      stack-exprs none termForm 8 0 (omega arith) (omega arith) (encodeTerm a) (encodeTerm b) r a b (percent a b) (read-term a (encodeTerm b ++ r) (h .0)) (read-term b r (h .1)) refl
-  read-term (get e f) r h = stack-expr none termForm 9 f (omega arith) (omega (arith, h .0)) (encodeTerm e) r e (get e f) (read-term e r (h .1)) refl
-  read-term (set a f b) r h =
-      stack-exprs none termForm 10 f (omega arith) (omega (arith, h .0)) (encodeTerm a) (encodeTerm b) r a b (set a f b) (read-term a (encodeTerm b ++ r) (h .1)) (read-term b r (h .2)) refl
+  read-term (op o es) r h =
+      let n = countTerms es in
+      stack-list none termForm (opKind o) (opPayload o n) (omega (arith, op-kind-small o)) (label-small (shape o) n (h .0)) (encodeTerms es) r (termItems es) _ (read-terms es r (h .1)) (op-form o es (termStack r) (h .0))
   read-term (letIn x a b) r h =
       stack-exprs none termForm 11 x (omega arith) (omega (arith, h .0)) (encodeTerm a) (encodeTerm b) r a b (letIn x a b) (read-term a (encodeTerm b ++ r) (h .1)) (read-term b r (h .2)) refl
   read-term (future x y e) r h =
-      stack-expr none termForm 12 (x + 128 * y) (omega arith) (omega (arith, h .0, h .1)) (encodeTerm e) r e (future x y e) (read-term e r (h .2)) (future-form x y e (termStack r) (h .0))
-  read-term (call e m es) r h =
-      stack-lists none termForm 13 (asked m (countTerms es)) (omega arith) (omega (arith, asked-small m (countTerms es) (h .0) (h .1))) (encodeTerm e) (encodeTerms es) r (alone e ∷ []) (termItems es) _
-      (read-term e (encodeTerms es ++ r) (h .2)) (read-terms es r (h .3)) (asked-in m es (termStack r) (h .0) call e)
-  read-term (send e m es) r h =
-      stack-lists none termForm 14 (asked m (countTerms es)) (omega arith) (omega (arith, asked-small m (countTerms es) (h .0) (h .1))) (encodeTerm e) (encodeTerms es) r (alone e ∷ []) (termItems es) _
-      (read-term e (encodeTerms es ++ r) (h .2)) (read-terms es r (h .3)) (asked-in m es (termStack r) (h .0) send e)
+      stack-list none termForm 12 (x + 128 * y) (omega arith) (omega (arith, h .0, h .1)) (encodeTerm e) r (alone e ∷ []) _ (read-term e r (h .2)) (future-form x y e (termStack r) (h .0))
   read-term (literal k fs ms) r h =
       stack-lists none termForm (kindNumber k) (countInits fs + 8 * countMethods ms) (omega (arith, kind-small k)) (omega (arith, h .0, h .1)) (encodeInits fs) (encodeMethods ms) r (initItems fs) (methodItems ms) _
       (read-inits fs (encodeMethods ms ++ r) (h .2)) (read-methods ms r (h .3)) (literal-form k fs ms (termStack r) (h .0))

@@ -27,6 +27,7 @@ use Rattle.lister.specs.Listed.{deep, waits, waitingIn, fieldsIn, kindIn
 use Rattle.showing.specs.Spelling.{Spells}
 use Rattle.showing.specs.Says.{behind-text, showing}
 use Rattle.showing.specs.Words.{leaf-shown}
+use Rattle.showing.specs.Forms.{operands-shown}
 use Rattle.lister.specs.Shows.{show-methods}
 use Rattle.lister.specs.Messages.{Quiet, later-waits, waiting-shown, fields-shown}
 
@@ -125,7 +126,7 @@ module _ (t : List ℕ) (ws : List Bytes) (sp : Spells t ws) (a : ℕ) (s : Seri
         let z : fi ++ (mi ++ []) ≡ fi ++ mi = ap {B = List Bytes} (λ u. fi ++ u) (append-nil mi) in
         ap (λ u. slotIn t a (seriesBit s) (slotHead (tagNumber g) (length F) (countMethods M) n ∷ names (fieldNames F) ∷ u) (encodeMethods M ++ b) q) v
         ∙ slot-text (tagNumber g) (length F) (countMethods M) n (tag-low g) (omega (arith, h .0 .0)) (omega (arith, h .1)) (printTag g) [] fi mi [] (names (fieldNames F)) (vs ++ r) (encodeMethods M ++ b) b q q
-        (tag-kind g) (tag-state g _) (fields-shown t ws sp F r (h .0 .1) (h .0 .2)) (show-methods t ws sp M deep b (h .2) l) (waiting-shown t ws sp n 16 [] q (omega arith) tt tt e)
+        (tag-kind g) (tag-state g _) (fields-shown t ws sp F r (h .0 .1) (h .0 .2)) (operands-shown t (show-methods t ws sp M deep b (h .2) l)) (waiting-shown t ws sp n 16 [] q (omega arith) tt tt e)
         ∙ ap (λ u. entry (line (printTag g ∷ printNumber a ∷ printSeries s ∷ printNumber n ∷ u)) b q) z
 
     open-shown : (p : List Message) → Each MessageFits p → At n p → length p ≤ 16

@@ -124,7 +124,3 @@ actorsIn t a (suc n) w = actorIn t a w ++ actorsIn t (a + 1) n (drop 3200 w)
 
 unfoldable pub listedIn : List ℕ → Bytes
 listedIn t = actorsIn t 0 (getD t 0 0 % 5) (drop 256 t)
-
-unfoldable pub Listed·all : Unit {0}
-unfolding messageIn aimIn waits waitingIn inboxIn fieldsIn kindIn stateIn entryIn openingIn partsIn slotIn slotsIn spacedIn titleIn countsIn exprIn lineIn entitiesIn actorIn actorsIn listedIn
-Listed·all = tt

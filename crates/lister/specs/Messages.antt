@@ -10,24 +10,26 @@ use lib.ListN.{length, getD}
 use lib.Seq.{drop-at}
 use Rattle.atlite.specs.Base.{bytes}
 use Rattle.atlite.specs.Lexicon.{Bytes}
-use Rattle.atlite.specs.Printer.{form, printWord}
-use Rattle.atlite.specs.Listing.{printValue, printName, printField, printMessage, printInbox}
+use Rattle.atlite.specs.Printer.{form, placed, printWord}
+use Rattle.atlite.specs.Listing.{printValue, printField, printMessage, printInbox}
 use Rattle.atlite.specs.Term.{made, copied, Value, null, num, ref}
 use Rattle.atlite.specs.State.{Message, message, Field, field, fieldNames, fieldValues}
 use Rattle.reading.specs.Items.{behind}
 use Rattle.layout.specs.Pack.{node, zeros, pad, flat, names}
 use Rattle.layout.specs.PackLaws.{pack-low, pack-high, Each, NameFits}
-use Rattle.layout.specs.Terms.{seriesBit, encodeValue, tagged, asked}
+use Rattle.layout.specs.Terms.{seriesBit, encodeValue, asked, fieldHeader}
 use Rattle.layout.specs.TermLaws.{ValueFits}
 use Rattle.layout.specs.TermReads.{asked-small}
 use Rattle.layout.specs.Layout.{valueWords, encodeMessage}
 use Rattle.layout.specs.Decode.{aimOf, aim}
 use Rattle.layout.specs.Slots.{MessageFits, message-length, From, At}
-use Rattle.showing.specs.Shown.{payload, noName, Text, operandsIn, formIn, shown}
+use Rattle.showing.specs.Shown.{payload, Text, formIn, shown}
 use Rattle.lister.specs.Listed.{messageIn, aimIn, waits, waitingIn, inboxIn, fieldsIn}
 use Rattle.showing.specs.Spelling.{Spells}
-use Rattle.showing.specs.Says.{showing, form-shown, operand, named-operand, says-message, says-field}
-use Rattle.showing.specs.Words.{name-shown, tag-shown, asked-kind, asked-tag, asked-number, value-shown}
+use Rattle.showing.specs.Says.{showing}
+use Rattle.showing.specs.Words.{asked-parts, value-shown, field-says}
+use Rattle.showing.specs.Forms.{Operands, none, more, last, form-shown}
+use Rattle.showing.specs.Operators.{message-says}
 
 -- ---- aims
 pub aim-value : (v : Value) → ValueFits v → aimIn (encodeValue v) ≡ aimOf v
@@ -51,13 +53,13 @@ message-waits : (n : ℕ) (m : Message) (r : List ℕ) → MessageFits m → aim
 unfolding waits encodeMessage pad aim
 message-waits n (message v m vs) r h e =
     let l : length vs < 8 = omega (arith, h .2) in
-    rw (asked-kind 14 m (length vs) (h .1) l, aim-value v (h .0), eq-eqb (aimOf v) n e)
+    rw (asked-parts 14 m (length vs) (h .1) l .0, aim-value v (h .0), eq-eqb (aimOf v) n e)
 
 message-later : (n : ℕ) (m : Message) (r : List ℕ) → MessageFits m → suc n ≤ aim m → waits n (encodeMessage m ++ r) ≡ false
 unfolding waits encodeMessage pad aim
 message-later n (message v m vs) r h e =
     let l : length vs < 8 = omega (arith, h .2) in
-    rw (asked-kind 14 m (length vs) (h .1) l, aim-value v (h .0), ne-eqb (aimOf v) n (λ d. omega arith))
+    rw (asked-parts 14 m (length vs) (h .1) l .0, aim-value v (h .0), ne-eqb (aimOf v) n (λ d. omega arith))
 
 -- words that begin with no message
 unfoldable pub Quiet : List ℕ → Type 0
@@ -75,24 +77,21 @@ later-waits n (m ∷ q) w h f k = ap (waits n) (append-assoc (encodeMessage m) (
 
 module _ (t : List ℕ) (ws : List Bytes) (sp : Spells t ws) where
   -- ---- messages
-  values-shown : (vs : List Value) (r : List ℕ) → Each ValueFits vs → operandsIn t (shown t 1) noName (length vs) (valueWords vs ++ r) ≡ showing (behind (map printValue vs) []) r
-  unfolding valueWords operandsIn
-  values-shown [] r h = refl
-  values-shown (v ∷ vs) r h = operand t (shown t 1) _ _ r (printValue v) (map printValue vs) (length vs) (value-shown t ws sp v 0 (valueWords vs ++ r) (h .0)) (values-shown vs r (h .1))
+  values-shown : (vs : List Value) (r : List ℕ) → Each ValueFits vs → Operands (shown t 1) r (length vs) (valueWords vs) (map printValue vs)
+  unfolding valueWords
+  values-shown [] r h = none
+  values-shown (v ∷ vs) r h = more (encodeValue v ∷ []) (value-shown t ws sp v 1 (valueWords vs ++ r) (h .0) (omega arith)) (values-shown vs r (h .1))
 
   pub message-shown : (m : Message) (r : List ℕ) → MessageFits m → messageIn t (encodeMessage m ++ r) ≡ printMessage ws m
-  unfolding messageIn encodeMessage pad printMessage formIn form
+  unfolding messageIn encodeMessage valueWords pad printMessage placed formIn form
   message-shown (message v m vs) r h =
       let c = length vs in
       let l : c < 8 = omega (arith, h .2) in
       let i = asked-small m c (h .1) l in
       let z : 301989888 + node 14 (asked m c) % payload ≡ node 18 (asked m c) = omega arith in
       let w = zeros (6 - suc (suc (length (valueWords vs)))) in
-      rw z (ap (λ (x : Text). x .text)
-      (ap (formIn t (shown t 1) (node 18 (asked m c))) (ap {B = List ℕ} (λ u. encodeValue v ∷ u) (append-assoc (valueWords vs) w r))
-      ∙ form-shown t (node 18 (asked m c)) (bytes "message") _ (w ++ r) (printValue v ∷ printName ws m ∷ map printValue vs) [] (tagged m) (suc c)
-      (says-message t _ (tagged m) c (asked-tag 18 m c (h .1) l) (asked-number 18 m c (h .1) l) (asked-kind 18 m c (h .1) l)) (shown t 1)
-      (named-operand t (shown t 1) _ _ (w ++ r) (printValue v) (map printValue vs) c (tagged m) (printName ws m) (tag-shown t ws sp m (h .1)) (value-shown t ws sp v 0 _ (h .0)) (values-shown vs (w ++ r) (h .3)))))
+      rw (z, append-assoc (valueWords vs) w r)
+      (ap (λ (x : Text). x .text) (form-shown (message-says t ws sp m c (h .1) l) (values-shown (v ∷ vs) (w ++ r) (h .0, h .3))))
 
   pub waiting-shown : (n k : ℕ) (q : List Message) (w : List ℕ) → length q ≤ k → Each MessageFits q → At n q → waits n w ≡ false
       → waitingIn t k n (flat encodeMessage q ++ w) ≡ showing (behind (map (printMessage ws) q) []) w
@@ -114,11 +113,10 @@ module _ (t : List ℕ) (ws : List Bytes) (sp : Spells t ws) where
   -- ---- fields
   field-shown : (f : ℕ) (v : Value) (r : List ℕ) → NameFits f → ValueFits v
       → formIn t (shown t 1) (2147483648 + f) (encodeValue v ∷ r) ≡ showing (form (bytes "field" ∷ printWord ws f ∷ printValue v ∷ [])) r
-  unfolding operandsIn
+  unfolding placed
   field-shown f v r g h =
-      form-shown t (2147483648 + f) (bytes "field") _ r (printValue v ∷ []) (printWord ws f ∷ []) noName 1
-      (says-field t _ f (printWord ws f) (name-shown t ws sp f g) (omega arith) (omega arith)) (shown t 1)
-      (operand t (shown t 1) _ _ r (printValue v) [] 0 (value-shown t ws sp v 0 r h) refl)
+      let z : 2147483648 + f ≡ fieldHeader f = omega arith in
+      rw z (form-shown (field-says t ws sp f g) (last (encodeValue v ∷ []) (value-shown t ws sp v 1 r h (omega arith))))
 
   pub fields-shown : (F : List Field) (r : List ℕ) → Each NameFits (fieldNames F) → Each ValueFits (fieldValues F)
       → fieldsIn t (length F) (names (fieldNames F)) (valueWords (fieldValues F) ++ r) ≡ behind (map (printField ws) F) []

@@ -7,6 +7,7 @@ use borrow.Author.Tests.{lt-ltb, le-ltb, ne-eqb}
 use Rattle.atlite.specs.Term.{this, ·t, ·f, ·r, ·s}
 use Rattle.layout.specs.Pack.{node}
 use Rattle.layout.specs.Terms.{variable}
+use Rattle.showing.specs.Ranges.{past, over, under}
 use Rattle.loading.specs.Operands.{payload, arity, arity-header}
 use Rattle.loading.specs.Emitted.{binding, closureWords, askWords, before, after, inner}
 use Rattle.loading.specs.Expands.{Brings}
@@ -16,45 +17,37 @@ module _ (z : ℕ) where
     pub brings-copy : (c : ℕ) → 7 ≤ h / payload → h / payload < 15 → arity h ≡ c → Brings z h (h ∷ []) z c []
     unfolding before inner after
     brings-copy c l u e = record {
-      isForm = l;
-      no-resolve = λ d. omega arith;
-      no-when = λ d. omega arith;
-      front = rw (ne-eqb (h / payload) 64 (λ d. omega arith), ne-eqb (h / payload) 65 (λ d. omega arith), ne-eqb (h / payload) 68 (λ d. omega arith), ne-eqb (h / payload) 130 (λ d. omega arith));
-      self = rw (lt-ltb (h / payload) 15 u);
+      isForm = omega arith;
+      front = simp (under u);
+      self = simp lt-ltb;
       count = e;
-      back = rw (ne-eqb (h / payload) 64 (λ d. omega arith));
+      back = simp (under u);
     }
 
     pub brings-literal : (c : ℕ) → 15 ≤ h / payload → h / payload < 18 → arity h ≡ c → Brings z h (h ∷ []) (variable this) c []
     unfolding before inner after
     brings-literal c l u e = record {
       isForm = omega arith;
-      no-resolve = λ d. omega arith;
-      no-when = λ d. omega arith;
-      front = rw (ne-eqb (h / payload) 64 (λ d. omega arith), ne-eqb (h / payload) 65 (λ d. omega arith), ne-eqb (h / payload) 68 (λ d. omega arith), ne-eqb (h / payload) 130 (λ d. omega arith));
-      self = rw (le-ltb (h / payload) 15 l, lt-ltb (h / payload) 18 u);
+      front = simp (under u);
+      self = simp (le-ltb, lt-ltb);
       count = e;
-      back = rw (ne-eqb (h / payload) 64 (λ d. omega arith));
+      back = simp (under u);
     }
 
     pub brings-header : 128 ≤ h / payload → (h / payload ≡ 130 → ⊥) → Brings z h (h ∷ []) z 1 []
     unfolding before inner after
     brings-header l n = record {
       isForm = omega arith;
-      no-resolve = λ d. omega arith;
-      no-when = λ d. omega arith;
-      front = rw (ne-eqb (h / payload) 64 (λ d. omega arith), ne-eqb (h / payload) 65 (λ d. omega arith), ne-eqb (h / payload) 68 (λ d. omega arith), ne-eqb (h / payload) 130 n);
-      self = rw (le-ltb (h / payload) 15 (omega arith), le-ltb (h / payload) 18 (omega arith), ne-eqb (h / payload) 65 (λ d. omega arith));
+      front = simp (over l, ne-eqb (h / payload) 130 n);
+      self = simp (past l, over l);
       count = sym (arity-header h l .is);
-      back = rw (ne-eqb (h / payload) 64 (λ d. omega arith));
+      back = simp (over l);
     }
 
     pub brings-definition : (x : ℕ) → h / payload ≡ 130 → h % 128 ≡ x → Brings z h (binding x ∷ []) z 1 []
     unfolding before inner after
     brings-definition x e f = record {
       isForm = omega arith;
-      no-resolve = λ d. omega arith;
-      no-when = λ d. omega arith;
       front = rw (e, f);
       self = rw e;
       count = sym (arity-header h (omega arith) .is);
@@ -65,8 +58,6 @@ module _ (z : ℕ) where
     unfolding before inner after arity
     brings-fn x e f = record {
       isForm = omega arith;
-      no-resolve = λ d. omega arith;
-      no-when = λ d. omega arith;
       front = rw (e, f);
       self = rw e;
       count = rw e;
@@ -77,8 +68,6 @@ module _ (z : ℕ) where
     unfolding before inner after arity
     brings-ask n e f = record {
       isForm = omega arith;
-      no-resolve = λ d. omega arith;
-      no-when = λ d. omega arith;
       front = rw e;
       self = rw e;
       count = rw (e, f) (omega arith);
@@ -89,8 +78,6 @@ module _ (z : ℕ) where
   unfolding before inner after arity
   brings-seq = record {
     isForm = omega arith;
-    no-resolve = λ d. omega arith;
-    no-when = λ d. omega arith;
     front = refl;
     self = refl;
     count = refl;

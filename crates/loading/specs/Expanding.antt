@@ -9,10 +9,10 @@ use native.Mathlib.Omega.{arith}
 use borrow.Author.Tests.{ne-eqb, eqb-true, leb-true}
 use lib.Dec.{eqb, leb, ltb}
 use Rattle.atlite.specs.Base.{if_then_else_}
-use Rattle.atlite.specs.Term.{this, ·t, ·f, ·r, ·l, ·x, apply, firstWord, Value, Name, Kind, object, isolate, actor, plain, register, Term, Terms, nil, cons, Inits, noField, Methods, noMethod, method, seq, one, append, val, var, letIn, send, literal, call, future}
+use Rattle.atlite.specs.Term.{this, ·t, ·f, ·r, ·l, ·x, apply, firstWord, Value, Name, Kind, object, isolate, actor, register, Term, Terms, nil, cons, Inits, noField, Methods, noMethod, method, seq, one, two, append, call, send, written, val, var, op, letIn, literal, future}
 use Rattle.atlite.specs.Subst.{enters, subst, substAll}
-use Rattle.atlite.specs.Script.{Src, Srcs, SrcFields, SrcMethods}
-use Rattle.atlite.specs.Expansion.{functionWith, asking, Expansion, expand, expandAll, expandFields, expandMethods}
+use Rattle.atlite.specs.Script.{SrcOp, kept, ask, resolve, Src, Srcs, SrcFields, SrcMethods}
+use Rattle.atlite.specs.Expansion.{functionWith, asking, ofTwo, Expansion, expandOp, expand, expandAll, expandFields, expandMethods}
 use Rattle.atlite.specs.Valid.{isName}
 use Rattle.atlite.specs.Table.{Named, Grammatical, GrammaticalAll, GrammaticalFields, GrammaticalMethods}
 use Rattle.atlite.specs.Facts.{and₂}
@@ -36,28 +36,28 @@ unfoldable pub closure : Term → ℕ → Term → Term
 closure z x e = letIn ·t z (literal object noField (method apply (x ∷ []) e noMethod))
 
 -- ---- expansion
+unfoldable pub resolvingFor : Self → Term → Term → Term
+resolvingFor s e d =
+    letIn ·r e (letIn ·l (closure (selfTerm s) ·x (op (send Name.resolve) (two (var ·r) (var ·x)))) (op (send register) (two d (var ·l))))
+
+unfoldable pub expandOpWith : SrcOp → Self → Terms → Term
+expandOpWith (kept o) s es = op (written o) es
+expandOpWith (ask m) s es = asking m es
+expandOpWith resolve s es = ofTwo (resolvingFor s) es
+expandOpWith SrcOp.seq s es = ofTwo seq es
+
 unfoldable mutual
   pub expandWith : Src → Self → Term
   expandWith (Src.num n) s = val (Value.num n)
   expandWith Src.null s = val Value.null
   expandWith (Src.var x) s = if eqb this x then selfTerm s else var x
-  expandWith (Src.plus a b) s = Term.plus (expandWith a s) (expandWith b s)
-  expandWith (Src.percent a b) s = Term.percent (expandWith a s) (expandWith b s)
-  expandWith (Src.get e f) s = Term.get (expandWith e s) f
-  expandWith (Src.set e f d) s = Term.set (expandWith e s) f (expandWith d s)
-  expandWith (Src.call e m es) s = call (expandWith e s) (plain m) (expandAllWith es s)
-  expandWith (Src.send e m es) s = send (expandWith e s) (plain m) (expandAllWith es s)
-  expandWith (Src.ask e m es) s = asking (expandWith e s) m (expandAllWith es s)
+  expandWith (Src.op o es) s = expandOpWith o s (expandAllWith es s)
   expandWith (Src.letIn x e d) s = letIn x (expandWith e s) (expandWith d s)
   expandWith (Src.future x y e) s = future x y (expandWith e s)
   expandWith (Src.fn x e) s = closure (selfTerm s) x (expandWith e held)
-  expandWith (Src.resolve e d) s =
-      letIn ·r (expandWith e s)
-      (letIn ·l (closure (selfTerm s) ·x (send (var ·r) Name.resolve (one (var ·x)))) (send (expandWith d s) register (one (var ·l))))
   expandWith (Src.when e x d) s =
       future ·f ·r
-      (letIn ·l (closure (selfTerm s) x (call (var ·r) Name.resolve (one (expandWith d held)))) (seq (send (expandWith e s) register (one (var ·l))) (var ·f)))
-  expandWith (Src.seq a b) s = seq (expandWith a s) (expandWith b s)
+      (letIn ·l (closure (selfTerm s) x (op (call Name.resolve) (two (var ·r) (expandWith d held)))) (seq (op (send register) (two (expandWith e s) (var ·l))) (var ·f)))
   expandWith (Src.literal k fs ms) s = literal k (expandFieldsWith fs) (expandMethodsWith ms)
 
   pub expandAllWith : Srcs → Self → Terms
@@ -102,12 +102,7 @@ mutual
   this-same : (e : Term) → subst this (var this) e ≡ e
   this-same (val w) = refl
   this-same (var y) = same-variable y
-  this-same (Term.plus a b) = ap₂ Term.plus (this-same a) (this-same b)
-  this-same (Term.percent a b) = ap₂ Term.percent (this-same a) (this-same b)
-  this-same (Term.get e f) = ap (λ x. Term.get x f) (this-same e)
-  this-same (Term.set e f d) = ap₂ (λ x y. Term.set x f y) (this-same e) (this-same d)
-  this-same (call e m es) = ap₂ (λ x y. call x m y) (this-same e) (all-same es)
-  this-same (send e m es) = ap₂ (λ x y. send x m y) (this-same e) (all-same es)
+  this-same (op o es) = ap (op o) (all-same es)
   this-same (letIn y e d) = ap₂ (λ a b. letIn y a b) (this-same e) (same-either (eqb this y) _ _ d refl (this-same d))
   this-same (future y z e) = ap (future y z) (same-either (eqb this y) _ _ e refl (same-either (eqb this z) _ _ e refl (this-same e)))
   this-same (literal k fs ms) = literal-kept (var this) k fs ms
@@ -132,6 +127,17 @@ closure-this : (z : Term) (x : ℕ) (e d : Term) → subst this (var ·t) e ≡ 
 unfolding functionWith closure subst enters if_then_else_
 closure-this z x e d h = ap (closure z x) h
 
+op-this : (o : SrcOp) (es : Terms) (s : Self) → subst this (selfTerm s) (expandOp o es) ≡ expandOpWith o s (substAll this (selfTerm s) es)
+unfolding Expansion expandOpWith resolvingFor closure subst enters if_then_else_
+op-this (kept o) es s = refl
+op-this (ask m) es s = rw (append-last (selfTerm s) es)
+op-this resolve nil s = refl
+op-this resolve (cons e nil) s = refl
+op-this resolve (cons e (cons d es)) s = refl
+op-this SrcOp.seq nil s = refl
+op-this SrcOp.seq (cons e nil) s = refl
+op-this SrcOp.seq (cons e (cons d es)) s = refl
+
 -- ---- `this` put into an expanded script
 mutual
   unfolding Expansion expandWith selfTerm closure subst enters Grammatical if_then_else_
@@ -140,24 +146,13 @@ mutual
   expand-this (Src.num n) w s g = refl
   expand-this Src.null w s g = refl
   expand-this (Src.var x) w s g = refl
-  expand-this (Src.plus a b) w s g = ap₂ Term.plus (expand-this a w s (g .0)) (expand-this b w s (g .1))
-  expand-this (Src.percent a b) w s g = ap₂ Term.percent (expand-this a w s (g .0)) (expand-this b w s (g .1))
-  expand-this (Src.get e f) w s g = ap (λ x. Term.get x f) (expand-this e w s (g .0))
-  expand-this (Src.set e f d) w s g = ap₂ (λ x y. Term.set x f y) (expand-this e w s (g .0)) (expand-this d w s (g .2))
-  expand-this (Src.call e m es) w s g = ap₂ (λ x y. call x (plain m) y) (expand-this e w s (g .0)) (all-this es w s (g .3))
-  expand-this (Src.send e m es) w s g = ap₂ (λ x y. send x (plain m) y) (expand-this e w s (g .0)) (all-this es w s (g .3))
-  expand-this (Src.ask e m es) w s g =
-      rw (append-last (selfTerm s) (expandAll es)) (ap₂ (λ x y. asking x m y) (expand-this e w s (g .0)) (all-this es w s (g .3)))
+  expand-this (Src.op o es) w s g = op-this o (expandAll es) s ∙ ap (expandOpWith o s) (all-this es w s (g .1))
   expand-this (Src.letIn x e d) w s g = rw (named-other w x (g .0)) (ap₂ (λ a b. letIn x a b) (expand-this e w s (g .1)) (expand-this d w s (g .2)))
   expand-this (Src.future x y e) w s g = rw (named-other w x (g .0), named-other w y (g .1)) (ap (future x y) (expand-this e w s (g .2)))
   expand-this (Src.fn x e) w s g = closure-this (selfTerm s) x (expand e) _ (expand-this e w held (g .1))
-  expand-this (Src.resolve e d) w s g =
-      ap₂ (λ x y. letIn ·r x (letIn ·l (closure (selfTerm s) ·x (send (var ·r) Name.resolve (one (var ·x)))) (send y register (one (var ·l)))))
-      (expand-this e w s (g .0)) (expand-this d w s (g .1))
   expand-this (Src.when e x d) w s g =
-      ap₂ (λ y z. future ·f ·r (letIn ·l (closure (selfTerm s) x (call (var ·r) Name.resolve (one z))) (seq (send y register (one (var ·l))) (var ·f))))
+      ap₂ (λ y z. future ·f ·r (letIn ·l (closure (selfTerm s) x (op (call Name.resolve) (two (var ·r) z))) (seq (op (send register) (two y (var ·l))) (var ·f))))
       (expand-this e w s (g .0)) (expand-this d w held (g .2))
-  expand-this (Src.seq a b) w s g = ap₂ seq (expand-this a w s (g .0)) (expand-this b w s (g .1))
   expand-this (Src.literal k fs ms) w s g =
       literal-kept (selfTerm s) k _ _ ∙ ap₂ (literal k) (fields-this fs w (g .1)) (methods-this ms w (g .3))
 

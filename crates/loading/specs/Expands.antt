@@ -22,11 +22,9 @@ pub record Many (n z c : ℕ) (w s : List ℕ) : Type 0 where
   pub put : (r : List ℕ) → operandsIn (emitted n z) c (w ++ r) ≡ emits s r
   pub past : (r : List ℕ) (k : ℕ) → skipped (w ++ r) (c + k) ≡ skipped r k
 
--- the word h of c operands: what its form brings in, and what stands for `this` in the operands
+-- the word h of c operands, neither a resolve nor a when: what its form brings in, and what stands for `this` in the operands
 pub record Brings (z h : ℕ) (pre : List ℕ) (y c : ℕ) (post : List ℕ) : Type 0 where
-  pub isForm : 7 ≤ h / payload
-  pub no-resolve : h / payload ≡ 66 → ⊥
-  pub no-when : h / payload ≡ 67 → ⊥
+  pub isForm : (7 ≤ h / payload) × (h / payload ≡ 66 → ⊥) × (h / payload ≡ 67 → ⊥)
   pub front : before z h ≡ pre
   pub self : inner z h ≡ y
   pub count : arity h ≡ c
@@ -104,47 +102,39 @@ module _ (z h : ℕ) where
       let m′ = rw sub-one at m in
       record {
         put = λ r.
-            rw (le-ltb (h / payload) 7 (b .isForm), ne-eqb (h / payload) 66 (b .no-resolve), ne-eqb (h / payload) 67 (b .no-when), b .front, b .self, b .count, b .back, m′ .put r);
-        past = passed c w (wanted-as c (b .isForm) (b .count)) (m′ .past);
+            rw (le-ltb (h / payload) 7 (b .isForm .0), ne-eqb (h / payload) 66 (b .isForm .1), ne-eqb (h / payload) 67 (b .isForm .2), b .front, b .self, b .count, b .back, m′ .put r);
+        past = passed c w (wanted-as c (b .isForm .0) (b .count)) (m′ .past);
       }
 
   -- nothing stands behind the operands
   pub one-front : (n c y : ℕ) (pre w s : List ℕ) → 0 < n → Brings z h pre y c [] → Many (n - 1) y c w s → One n z (h ∷ w) (pre ++ s)
   one-front n c y pre w s d b m = one-same n z (h ∷ w) _ _ (ap {B = List ℕ} (λ l. pre ++ l) (append-nil s)) (one-form n c y pre [] w s d b m)
 
-  module _ (n : ℕ) (d : 0 < n) (w v s u : List ℕ) where
-    pub one-resolve : h / payload ≡ 66 → One (n - 1) z w s → One (n - 1) z v u
+  module _ (w v s u : List ℕ) where
+    pub one-resolve : (n : ℕ) → 0 < n → h / payload ≡ 66 → One (n - 1) z w s → One (n - 1) z v u
         → One n z (h ∷ (w ++ v)) ((binding ·r ∷ []) ++ (s ++ (resolverWords z ++ (u ++ (variable ·l ∷ [])))))
     unfolding emitted resolveIn arity
-    one-resolve e a b = go n d a b
-      where
-        go : (n : ℕ) → 0 < n → One (n - 1) z w s → One (n - 1) z v u
-            → One n z (h ∷ (w ++ v)) ((binding ·r ∷ []) ++ (s ++ (resolverWords z ++ (u ++ (variable ·l ∷ [])))))
-        go zero d a b = absurd (omega arith)
-        go (suc n) d a b =
-            let a′ = rw sub-one at a in
-            let b′ = rw sub-one at b in
-            record {
-              put = λ r. rw (e, append-assoc w v r, a′ .put (v ++ r), b′ .put r);
-              past = passed 2 (w ++ v) (wanted-as 2 (omega arith) (rw e)) (many-two n z w s v u a′ b′ .past);
-            }
+    one-resolve zero d e a b = absurd (omega arith)
+    one-resolve (suc n) d e a b =
+        let a′ = rw sub-one at a in
+        let b′ = rw sub-one at b in
+        record {
+          put = λ r. rw (e, append-assoc w v r, a′ .put (v ++ r), b′ .put r);
+          past = passed 2 (w ++ v) (wanted-as 2 (omega arith) (rw e)) (many-two n z w s v u a′ b′ .past);
+        }
 
-    pub one-when : h / payload ≡ 67 → One (n - 1) z w s → One (n - 1) (variable ·t) v u
-        → One n z (h ∷ (w ++ v)) (waiterWords z (h % 128) ++ (u ++ ((binding ·s ∷ sendRegister ∷ []) ++ (s ++ (variable ·l ∷ variable ·f ∷ [])))))
+    pub one-when : (n : ℕ) → 0 < n → (x : ℕ) → h / payload ≡ 67 → h % 128 ≡ x → One (n - 1) z w s → One (n - 1) (variable ·t) v u
+        → One n z (h ∷ (w ++ v)) (waiterWords z x ++ (u ++ ((binding ·s ∷ sendRegister ∷ []) ++ (s ++ (variable ·l ∷ variable ·f ∷ [])))))
     unfolding emitted whenIn arity
-    one-when e a b = go n d a b
-      where
-        go : (n : ℕ) → 0 < n → One (n - 1) z w s → One (n - 1) (variable ·t) v u
-            → One n z (h ∷ (w ++ v)) (waiterWords z (h % 128) ++ (u ++ ((binding ·s ∷ sendRegister ∷ []) ++ (s ++ (variable ·l ∷ variable ·f ∷ [])))))
-        go zero d a b = absurd (omega arith)
-        go (suc n) d a b =
-            let a′ = rw sub-one at a in
-            let b′ = rw sub-one at b in
-            record {
-              put = λ r.
-                  let p : skipped (w ++ (v ++ r)) 1 ≡ v ++ r = a′ .past (v ++ r) 0 ∙ skipped-none (v ++ r) in
-                  rw (e, append-assoc w v r, p, a′ .put (v ++ r), b′ .put r);
-              past = passed 2 (w ++ v) (wanted-as 2 (omega arith) (rw e)) (λ r k.
-                  let x : 2 + k ≡ suc (suc k) = omega arith in
-                  ap₂ skipped (append-assoc w v r) x ∙ a′ .past (v ++ r) (suc k) ∙ b′ .past r k);
-            }
+    one-when zero d x e f a b = absurd (omega arith)
+    one-when (suc n) d x e f a b =
+        let a′ = rw sub-one at a in
+        let b′ = rw sub-one at b in
+        record {
+          put = λ r.
+              let p : skipped (w ++ (v ++ r)) 1 ≡ v ++ r = a′ .past (v ++ r) 0 ∙ skipped-none (v ++ r) in
+              rw (e, f, append-assoc w v r, p, a′ .put (v ++ r), b′ .put r);
+          past = passed 2 (w ++ v) (wanted-as 2 (omega arith) (rw e)) (λ r k.
+              let i : 2 + k ≡ suc (suc k) = omega arith in
+              ap₂ skipped (append-assoc w v r) i ∙ a′ .past (v ++ r) (suc k) ∙ b′ .past r k);
+        }

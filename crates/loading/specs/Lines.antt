@@ -2,24 +2,25 @@
 -- them. Assumes nothing.
 use mathlib.Core.Path.{_≡_, refl, ap, _∙_}
 use mathlib.Core.List.{List, [], _∷_, _++_, append-assoc, append-nil}
-use Prim.Native.Nat.{ℕ, suc, _+_, _-_, _*_, _/_, _≤_, _<_}
+use Prim.Native.Nat.{ℕ, suc, _+_, _*_, _/_, _≤_, _<_}
 use native.Mathlib.Omega.{arith}
 use borrow.Author.Tests.{ne-eqb}
 use lib.ListN.{length}
 use Rattle.atlite.specs.Base.{Result, done, refused, _>>=_}
-use Rattle.atlite.specs.Term.{·s, plain}
-use Rattle.atlite.specs.Script.{Src, num, null, var, plus, percent, get, set, call, send, ask, letIn, future, fn, resolve, when, seq, literal, Line, expression, define, join}
-use Rattle.atlite.specs.Table.{countSrcs, countFields, countMethods, Grammatical, GrammaticalLines}
+use Rattle.atlite.specs.Term.{·s}
+use Rattle.atlite.specs.Script.{seq, Src, num, null, var, op, letIn, future, fn, when, literal, nil, cons, Line, expression, define, countSrcs, join}
+use Rattle.atlite.specs.Expansion.{ofTwo}
+use Rattle.atlite.specs.Table.{countFields, countMethods, Grammatical, GrammaticalLines}
 use Rattle.atlite.specs.Facts.{refused-done}
 use Rattle.layout.specs.Pack.{node, flat}
 use Rattle.layout.specs.Fitting.{name-fits}
 use Rattle.layout.specs.TermLaws.{kind-small}
-use Rattle.layout.specs.TableReads.{variable-named}
-use Rattle.layout.specs.Terms.{tagged, asked, kindNumber, encodeTerm}
-use Rattle.layout.specs.Tables.{encodeSrc, definitionHeader, encodeLine}
+use Rattle.layout.specs.TableReads.{variable-named, src-kind-small, src-payload-small}
+use Rattle.layout.specs.Terms.{kindNumber, encodeTerm}
+use Rattle.layout.specs.Tables.{srcKind, srcPayload, encodeSrc, definitionHeader, encodeLine}
 use Rattle.loading.specs.Operands.{payload}
 use Rattle.printer.specs.Nesting.{nesting, nestingLine, nestingLines}
-use Rattle.loading.specs.Expanding.{outside, expandWith}
+use Rattle.loading.specs.Expanding.{outside, expandOpWith, expandWith}
 use Rattle.loading.specs.Emitted.{nullWord, binding, emitted, leadIn, linesIn}
 use Rattle.loading.specs.Expands.{One, many-one, one-front}
 use Rattle.loading.specs.Brought.{brings-definition}
@@ -33,35 +34,20 @@ leads : (h : ℕ) (w : List ℕ) → h / payload < 130 → Leads (h ∷ w)
 unfolding Leads leadIn
 leads h w u r = rw (ne-eqb (h / payload) 130 (λ e. omega arith))
 
--- ---- a let around the lines below
-seq-words : (c d : Src) → (binding ·s ∷ []) ++ (encodeTerm (expandWith c outside) ++ encodeTerm (expandWith d outside)) ≡ encodeTerm (expandWith (seq c d) outside)
-unfolding expandWith encodeTerm
-seq-words c d = refl
-
-let-words : (x : ℕ) (c d : Src)
-    → [] ++ ((binding x ∷ encodeTerm (expandWith c outside)) ++ encodeTerm (expandWith d outside)) ≡ encodeTerm (expandWith (letIn x c d) outside)
-unfolding expandWith encodeTerm
-let-words x c d = refl
-
 module _ (w : ℕ) (few : w ≤ 64) where
   src-leads : (e : Src) → Grammatical w e → Leads (encodeSrc e)
-  unfolding encodeSrc Grammatical tagged countSrcs countFields countMethods
+  unfolding encodeSrc Grammatical countFields countMethods
   src-leads (num m) g = leads (node 2 m) _ (omega (arith, g))
   src-leads null g = leads (node 1 0) _ (omega arith)
   src-leads (var x) g = let f = variable-named w few x g in leads (node 6 x) _ (omega arith)
-  src-leads (plus a b) g = leads (node 7 0) _ (omega arith)
-  src-leads (percent a b) g = leads (node 8 0) _ (omega arith)
-  src-leads (get e x) g = let f = name-fits w few x (g .1) in leads (node 9 x) _ (omega arith)
-  src-leads (set a x b) g = let f = name-fits w few x (g .1) in leads (node 10 x) _ (omega arith)
+  src-leads (op o es) g =
+      let k = src-kind-small o in
+      let f = src-payload-small w few o (countSrcs es) (g .0) in
+      leads (node (srcKind o) (srcPayload o (countSrcs es))) _ (omega arith)
   src-leads (letIn x a b) g = let f = name-fits w few x (g .0) in leads (node 11 x) _ (omega arith)
   src-leads (future x y e) g = let f = name-fits w few x (g .0) in let f′ = name-fits w few y (g .1) in leads (node 12 (x + 128 * y)) _ (omega arith)
-  src-leads (call e m es) g = let f = name-fits w few m (g .1) in let c = g .2 in leads (node 13 (asked (plain m) (countSrcs es))) _ (omega arith)
-  src-leads (send e m es) g = let f = name-fits w few m (g .1) in let c = g .2 in leads (node 14 (asked (plain m) (countSrcs es))) _ (omega arith)
-  src-leads (ask e m es) g = let f = name-fits w few m (g .1) in let c = g .2 in leads (node 64 (asked (plain m) (countSrcs es))) _ (omega arith)
   src-leads (fn x e) g = let f = name-fits w few x (g .0) in leads (node 65 x) _ (omega arith)
-  src-leads (resolve a b) g = leads (node 66 0) _ (omega arith)
   src-leads (when a x b) g = let f = name-fits w few x (g .1) in leads (node 67 x) _ (omega arith)
-  src-leads (seq a b) g = leads (node 68 0) _ (omega arith)
   src-leads (literal k fs ms) g =
       let p = g .0 in
       let q = g .2 in
@@ -85,15 +71,20 @@ module _ (w : ℕ) (few : w ≤ 64) where
   definition-leads x e f r = let z : (x + 16777216 * 130) / payload ≡ 130 = omega arith in rw z
 
   -- ---- lines
-  -- a line, what stands before it, and the lines below
-  next : (n : ℕ) (a b r lead s u : List ℕ) → leadIn (a ++ (b ++ r)) ≡ lead → One 33 nullWord a s → linesIn (suc n) (b ++ r) ≡ u
-      → linesIn (suc (suc n)) ((a ++ b) ++ r) ≡ lead ++ (s ++ u)
+  -- A line before others: its words a with what stands before them are, around what the lines below mean, what F makes of that.
+  before-lines : (n : ℕ) (a b r lead s : List ℕ) (F : Src → Src) → leadIn (a ++ (b ++ r)) ≡ lead → One 33 nullWord a s
+      → ((d : Src) → lead ++ (s ++ encodeTerm (expandWith d outside)) ≡ encodeTerm (expandWith (F d) outside))
+      → (q : Result Src) → ((d : Src) → q ≡ done d → linesIn (suc n) (b ++ r) ≡ encodeTerm (expandWith d outside))
+      → (e : Src) → (q >>= λ d. done (F d)) ≡ done e → linesIn (suc (suc n)) ((a ++ b) ++ r) ≡ encodeTerm (expandWith e outside)
   unfolding linesIn
-  next n a b r lead s u e o h = ap (λ v. linesIn (suc (suc n)) v) (append-assoc a b r) ∙ rw (e, o .put (b ++ r), h)
+  before-lines n a b r lead s F p o f (refused c) i e k = absurd (refused-done k)
+  before-lines n a b r lead s F p o f (done d) i e k =
+      let q : F d ≡ e = cc in
+      ap (λ v. linesIn (suc (suc n)) v) (append-assoc a b r) ∙ rw (p, o .put (b ++ r), i d refl) (f d) ∙ ap (λ v. encodeTerm (expandWith v outside)) q
 
   pub emit-lines : (ls : List Line) (e : Src) (r : List ℕ) → GrammaticalLines w ls → nestingLines ls ≤ 32 → join ls ≡ done e
       → linesIn (length ls) (flat encodeLine ls ++ r) ≡ encodeTerm (expandWith e outside)
-  unfolding join GrammaticalLines nestingLines nestingLine flat encodeLine linesIn Leads
+  unfolding join GrammaticalLines nestingLines nestingLine flat encodeLine linesIn Leads expandWith expandOpWith ofTwo encodeTerm
   emit-lines [] e r g d j = absurd (refused-done j)
   emit-lines (expression c ∷ []) e r g d j =
       let q : c ≡ e = cc in
@@ -101,25 +92,12 @@ module _ (w : ℕ) (few : w ≤ 64) where
       ∙ ap (λ v. v .words) (line-one c (g .0) (omega arith) .put r)
       ∙ ap (λ v. encodeTerm (expandWith v outside)) q
   emit-lines (define x c ∷ []) e r g d j = absurd (refused-done j)
-  emit-lines (expression c ∷ l ∷ ls) e r g d j = go (join (l ∷ ls)) (λ s. emit-lines (l ∷ ls) s r (g .1) (omega arith)) j
-    where
-      go : (q : Result Src) → ((s : Src) → q ≡ done s → linesIn (suc (length ls)) (flat encodeLine (l ∷ ls) ++ r) ≡ encodeTerm (expandWith s outside))
-          → (q >>= λ s. done (seq c s)) ≡ done e
-          → linesIn (suc (suc (length ls))) ((encodeSrc c ++ flat encodeLine (l ∷ ls)) ++ r) ≡ encodeTerm (expandWith e outside)
-      go (refused n) i k = absurd (refused-done k)
-      go (done s) i k =
-          let q : seq c s ≡ e = cc in
-          next (length ls) (encodeSrc c) (flat encodeLine (l ∷ ls)) r _ _ _ (src-leads c (g .0) (flat encodeLine (l ∷ ls) ++ r)) (line-one c (g .0) (omega arith)) (i s refl)
-          ∙ seq-words c s ∙ ap (λ v. encodeTerm (expandWith v outside)) q
-  emit-lines (define x c ∷ l ∷ ls) e r g d j = go (join (l ∷ ls)) (λ s. emit-lines (l ∷ ls) s r (g .2) (omega arith)) j
-    where
-      go : (q : Result Src) → ((s : Src) → q ≡ done s → linesIn (suc (length ls)) (flat encodeLine (l ∷ ls) ++ r) ≡ encodeTerm (expandWith s outside))
-          → (q >>= λ s. done (letIn x c s)) ≡ done e
-          → linesIn (suc (suc (length ls))) (((definitionHeader x ∷ encodeSrc c) ++ flat encodeLine (l ∷ ls)) ++ r) ≡ encodeTerm (expandWith e outside)
-      go (refused n) i k = absurd (refused-done k)
-      go (done s) i k =
-          let q : letIn x c s ≡ e = cc in
-          let f = name-fits w few x (g .0) in
-          next (length ls) (definitionHeader x ∷ encodeSrc c) (flat encodeLine (l ∷ ls)) r _ _ _ (definition-leads x (encodeSrc c) f (flat encodeLine (l ∷ ls) ++ r))
-          (definition-one x c f (g .1) (omega arith)) (i s refl)
-          ∙ let-words x c s ∙ ap (λ v. encodeTerm (expandWith v outside)) q
+  emit-lines (expression c ∷ l ∷ ls) e r g d j =
+      before-lines (length ls) (encodeSrc c) (flat encodeLine (l ∷ ls)) r _ _ (λ s. op seq (cons c (cons s nil)))
+      (src-leads c (g .0) (flat encodeLine (l ∷ ls) ++ r)) (line-one c (g .0) (omega arith)) (λ s. refl)
+      (join (l ∷ ls)) (λ s. emit-lines (l ∷ ls) s r (g .1) (omega arith)) e j
+  emit-lines (define x c ∷ l ∷ ls) e r g d j =
+      let f = name-fits w few x (g .0) in
+      before-lines (length ls) (definitionHeader x ∷ encodeSrc c) (flat encodeLine (l ∷ ls)) r _ _ (letIn x c)
+      (definition-leads x (encodeSrc c) f (flat encodeLine (l ∷ ls) ++ r)) (definition-one x c f (g .1) (omega arith)) (λ s. refl)
+      (join (l ∷ ls)) (λ s. emit-lines (l ∷ ls) s r (g .2) (omega arith)) e j

@@ -5,7 +5,7 @@ use mathlib.Core.List.{List, [], _∷_}
 use Prim.Native.Nat.{ℕ, suc, _+_, _-_, _*_, _≤_, _<_}
 use native.Mathlib.Omega.{arith}
 use lib.ListN.{length, drop}
-use Rattle.atlite.specs.Base.{done, refused, _>>=_, bytes}
+use Rattle.atlite.specs.Base.{done, refused, bytes}
 use Rattle.atlite.specs.Lexicon.{Bytes, dictionary}
 use Rattle.atlite.specs.Script.{SrcMethods}
 use Rattle.atlite.specs.Table.{countMethods}

@@ -3,7 +3,7 @@ use mathlib.Core.Path.{_≡_, refl, sym, ap, _∙_}
 use mathlib.Core.Bool.{Bool, true, false}
 use mathlib.Core.Option.{none, some}
 use mathlib.Core.List.{List, [], _∷_}
-use Prim.Native.Nat.{ℕ, suc, _+_, _-_, _≤_, _<_}
+use Prim.Native.Nat.{ℕ, suc, _+_, _≤_, _<_}
 use native.Mathlib.Omega.{arith}
 use borrow.Author.Needs.{needs}
 use lib.Dec.{eqb}
@@ -19,7 +19,7 @@ use Rattle.scan.specs.Codes.{lowPart, highPart, Placed}
 use Rattle.scan.specs.Scans.{word-nonempty, word-is, not-apply, word-room}
 use Rattle.parse.specs.declared.Name.{Name}
 use Rattle.parse.specs.declared.Name.the-variants.{Word, NoWord}
-use Rattle.parse.specs.Atoms.{Ready, Named, NameOf, SpacedName}
+use Rattle.parse.specs.Atoms.{Ready, NameRead, Named, NameOf, SpacedName}
 
 -- ---- places
 place-some : (ws : List Bytes) (w : Bytes) (n : ℕ) → index ws w < length ws → place n ws w ≡ some (index ws w + n)
@@ -142,6 +142,16 @@ spaced-some t at r a s k n = nearer t at (at + 1) _ _ a (omega arith) (rw (eat-s
 pub spaced-none : (t : Bytes) (at : ℕ) (r : Bool) → Starts t at (32 ∷ []) r → r ≡ false → SpacedName t at NoWord
 unfolding SpacedName Named spacedWord spaced
 spaced-none t at r s k = rw (eat-not t at 32 r s k)
+
+-- what was read behind a space, by the answer
+module _ (t : Bytes) (at : ℕ) (x : Name) (s : SpacedName t at x) where
+  pub spaced-read : (y i : ℕ) → x ≡ Word y i → NameRead (spacedWord (dictionary t) (drop at t)) t at y i
+  unfolding SpacedName Named
+  spaced-read y i e = rw e at s
+
+  pub spaced-refused : x ≡ NoWord → spacedWord (dictionary t) (drop at t) ≡ refused 2
+  unfolding SpacedName Named
+  spaced-refused e = rw e at s
 
 -- the number of a word that was read has twelve bits
 pub name-small : (t : Bytes) (at : ℕ) (c : Name) (y i : ℕ) → NameOf t at c → c ≡ Word y i → y < 4096

@@ -11,7 +11,7 @@ use lib.ListN.{length, drop, take, length-append, drop-of-length-le}
 use lib.Seq.{sets, sets-eq, length-sets, take-append-seam, drop-cons}
 use Rattle.atlite.specs.Base.{Result, done, refused, _>>=_, bytes}
 use Rattle.atlite.specs.Lexicon.{Bytes, dictionary}
-use Rattle.atlite.specs.Script.{Src, Line, expression, define, join}
+use Rattle.atlite.specs.Script.{seq, Src, op, nil, cons, Line, expression, define, join}
 use Rattle.atlite.specs.Reader.{eat, after, spaced, readWord, readExpr, readDefinition, readLine, readLines, readScript}
 use Rattle.atlite.specs.Facts.{Every, holds, every-done, given}
 use Rattle.layout.specs.Pack.{flat}
@@ -66,7 +66,7 @@ unfolding endsWell join isExpression
 join-good [] h = absurd (false≢true h)
 join-good (expression e ∷ []) h = (e, refl)
 join-good (define x e ∷ []) h = absurd (false≢true h)
-join-good (expression e ∷ l ∷ ls) h = let r = join-good (l ∷ ls) h in (Src.seq e (r .0), rw (r .1))
+join-good (expression e ∷ l ∷ ls) h = let r = join-good (l ∷ ls) h in (op seq (cons e (cons (r .0) nil)), rw (r .1))
 join-good (define x e ∷ l ∷ ls) h = let r = join-good (l ∷ ls) h in (Src.letIn x e (r .0), rw (r .1))
 
 join-bad : (ls : List Line) → endsWell ls ≡ false → join ls ≡ refused 2

@@ -7,9 +7,8 @@ use lib.ListN.{length, drop, set, length-append}
 use lib.Seq.{sets}
 use Rattle.atlite.specs.Base.{done, _>>=_}
 use Rattle.atlite.specs.Lexicon.{Bytes, dictionary}
-use Rattle.atlite.specs.Script.{Src}
-use Rattle.atlite.specs.Table.{countSrcs}
-use Rattle.atlite.specs.Reader.{spaced, spacedWord, readArgs, readExpr}
+use Rattle.atlite.specs.Script.{Src, countSrcs}
+use Rattle.atlite.specs.Reader.{spaced, spacedWord, readExpr}
 use Rattle.words.specs.Wide.{wide, pair, wideSrc, wideSrcs}
 use Rattle.parse.specs.declared.Name.{Name}
 use Rattle.parse.specs.declared.Name.the-variants.{Word}
@@ -17,9 +16,10 @@ use Rattle.parse.specs.declared.Step.{Step}
 use Rattle.parse.specs.declared.Step.the-variants.{Done, Bad}
 use Rattle.parse.specs.declared.Listed.{Listed}
 use Rattle.parse.specs.declared.Listed.the-variants.{Items, NoItems}
-use Rattle.parse.specs.Atoms.{NameRead, Named, SpacedName}
-use Rattle.parse.specs.Steps.{Read, Took, Reads, Closed, ListRead, TookList, Lists, TookPart, Lasts, Argued, spaceds, readOne, readPair, twos, twoWords, readMid, mids, midWords, readSend, sends, sendWords, argsFrom}
+use Rattle.parse.specs.Atoms.{NameRead, SpacedName}
+use Rattle.parse.specs.Steps.{readArgs, Read, Took, Reads, Closed, ListRead, TookList, Lists, TookPart, Lasts, Argued, spaceds, readOne, readPair, twos, twoWords, readMid, mids, midWords, readSend, sends, sendWords, argsFrom}
 use Rattle.layout.specs.Writes.{sets-append}
+use Rattle.parse.specs.NameLaws.{spaced-read}
 use Rattle.parse.specs.StepLaws.{headed}
 use Rattle.parse.specs.FormLaws.{bind-assoc}
 
@@ -139,10 +139,6 @@ module _ (t : Bytes) (at o : ℕ) (old m₁ new : List ℕ) (a : Step) (s : Read
   abbrev Between : Type 0
   Between = NameRead (spacedWord (dictionary t) (drop i t)) t i y j
 
-  word : Between
-  unfolding SpacedName Named
-  word = rw d at v
-
   mids-is : (n : ℕ) (f : First n) → Between
       → mids t n (drop at t) ≡ _>>=_ {B = (Src × ℕ × Src) × Bytes} (readOne (readExpr n (dictionary t)) (drop j t)) (λ r. done ((f .value, y, r .0), r .1))
   unfolding mids readMid readOne
@@ -175,7 +171,7 @@ module _ (t : Bytes) (at o : ℕ) (old m₁ new : List ℕ) (a : Step) (s : Read
   pub mid-part : (w k : ℕ) (r : Step) → w ≡ wide k y → Lasts w t j p m₁ o new r → Reads (midWords k) (mids t) t at o old new r
   unfolding Reads Lasts
   mid-part w k r h u n l =
-      let f = first n l in let f₁ = f .far in let g = word in let f₂ = g .far in mid-core n w k r f g h (u n (omega arith))
+      let f = first n l in let f₁ = f .far in let g = spaced-read t i x v y j d in let f₂ = g .far in mid-core n w k r f g h (u n (omega arith))
 
   send-core : (n k : ℕ) (r : Step) → First n → Between
       → TookPart 0 wideSrcs (λ es. wide k (pair y (countSrcs es))) t j p m₁ o new (readArgs (readExpr n (dictionary t)) (drop j t)) r
@@ -205,4 +201,4 @@ module _ (t : Bytes) (at o : ℕ) (old m₁ new : List ℕ) (a : Step) (s : Read
 
   pub send-part : (k : ℕ) (r : Step) → Argued k y t j p m₁ o new r → Reads (sendWords k) (sends t) t at o old new r
   unfolding Reads Argued
-  send-part k r u n l = let f = first n l in let f₁ = f .far in let g = word in let f₂ = g .far in send-core n k r f g (u n (omega arith))
+  send-part k r u n l = let f = first n l in let f₁ = f .far in let g = spaced-read t i x v y j d in let f₂ = g .far in send-core n k r f g (u n (omega arith))

@@ -9,8 +9,7 @@ use lib.ListN.{length, drop, set, length-append}
 use lib.Seq.{sets, set-comm}
 use Rattle.atlite.specs.Base.{Result, done, refused, _>>=_}
 use Rattle.atlite.specs.Lexicon.{Bytes, dictionary}
-use Rattle.atlite.specs.Script.{Src, Srcs}
-use Rattle.atlite.specs.Table.{countSrcs}
+use Rattle.atlite.specs.Script.{Src, Srcs, countSrcs}
 use Rattle.atlite.specs.Reader.{Reading, eat, spaced, spacedWord, readItems, readExpr}
 use Rattle.layout.specs.Writes.{sets-append}
 use Rattle.words.specs.Wide.{wide, wideSrc, wideSrcs}
@@ -22,7 +21,7 @@ use Rattle.parse.specs.declared.Step.the-variants.{Done, Bad}
 use Rattle.parse.specs.declared.Listed.{Listed}
 use Rattle.parse.specs.declared.Listed.the-variants.{Items, NoItems}
 use Rattle.parse.specs.Atoms.{NameRead, Named, NameOf, SpacedName}
-use Rattle.parse.specs.NameLaws.{eat-starts, eat-not, closes, open-still, starts-room}
+use Rattle.parse.specs.NameLaws.{eat-starts, eat-not, closes, open-still, starts-room, spaced-read, spaced-refused}
 use Rattle.parse.specs.Steps.{Place, Read, Took, Reads, Closed, ListRead, TookList, Lists, spaceds, exprs, readOne, ones, oneWords, readPair, twos, twoWords, readGet, gets, getWords, readMid, mids, midWords, readSend, sends, sendWords, argsFrom}
 
 -- ---- writes
@@ -149,9 +148,6 @@ module _ (t : Bytes) (at o : ℕ) (old new : List ℕ) (r : Bool) (s : Starts t 
 Spaced : Bytes → ℕ → ℕ → ℕ → List ℕ → List ℕ → ℕ → ℕ → Type 0
 Spaced t n at o old new i p = Read wideSrc t at o old new (spaced (readExpr n (dictionary t)) (drop at t)) i p
 
-Words : Bytes → ℕ → ℕ → ℕ → Type 0
-Words t at y i = NameRead (spacedWord (dictionary t) (drop at t)) t at y i
-
 module _ (t : Bytes) (at o : ℕ) (old m₁ new : List ℕ) (a : Step) (s : Reads wideSrc (spaceds t) t at (o + 1) old m₁ a) where
   module _ (n : ℕ) (l : length t - at < n) where
     first : (i p : ℕ) → a ≡ Done i p → Spaced t n at (o + 1) old m₁ i p
@@ -181,17 +177,9 @@ module _ (t : Bytes) (at o : ℕ) (old m₁ new : List ℕ) (a : Step) (s : Read
   module _ (i p : ℕ) (e : a ≡ Done i p) where
     -- a word
     module _ (x : Name) (v : SpacedName t i x) where
-      word : (y j : ℕ) → x ≡ Word y j → Words t i y j
-      unfolding SpacedName Named Words
-      word y j d = rw d at v
-
-      word-bad : x ≡ NoWord → spacedWord (dictionary t) (drop i t) ≡ refused 2
-      unfolding SpacedName Named
-      word-bad d = rw d at v
-
-      get-core : (n w y j : ℕ) (r : Step) → Spaced t n at (o + 1) old m₁ i p → Words t i y j → w ≡ wide 9 y → Closed t j m₁ o w p new r
+      get-core : (n w y j : ℕ) (r : Step) → Spaced t n at (o + 1) old m₁ i p → NameRead (spacedWord (dictionary t) (drop i t)) t i y j → w ≡ wide 9 y → Closed t j m₁ o w p new r
           → Took getWords t at o old new (gets t n (drop at t)) r
-      unfolding gets readGet getWords Spaced Words
+      unfolding gets readGet getWords Spaced
       get-core n w y j r z k h c =
           let b = z .short in
           let f = z .far in
@@ -201,31 +189,19 @@ module _ (t : Bytes) (at o : ℕ) (old m₁ new : List ℕ) (a : Step) (s : Read
 
       pub get-done : (w y j : ℕ) (r : Step) → x ≡ Word y j → w ≡ wide 9 y → Closed t j m₁ o w p new r → Reads getWords (gets t) t at o old new r
       unfolding Reads
-      get-done w y j r d h c n l = get-core n w y j r (first n l i p e) (word y j d) h c
-
-      get-worse : (n : ℕ) → Spaced t n at (o + 1) old m₁ i p → spacedWord (dictionary t) (drop i t) ≡ refused 2 → gets t n (drop at t) ≡ refused 2
-      unfolding gets readGet Spaced
-      get-worse n z k = rw (z .is) (rw k)
+      get-done w y j r d h c n l = get-core n w y j r (first n l i p e) (spaced-read t i x v y j d) h c
 
       pub get-bad : x ≡ NoWord → Reads getWords (gets t) t at o old new Bad
-      unfolding Reads Took
-      get-bad d n l = get-worse n (first n l i p e) (word-bad d)
-
-      mid-worse : (n : ℕ) → Spaced t n at (o + 1) old m₁ i p → spacedWord (dictionary t) (drop i t) ≡ refused 2 → mids t n (drop at t) ≡ refused 2
-      unfolding mids readMid Spaced
-      mid-worse n z k = rw (z .is) (rw k)
+      unfolding Reads Took gets readGet Spaced
+      get-bad d n l = let z = first n l i p e in rw (z .is) (rw (spaced-refused t i x v d))
 
       pub mid-word-bad : (k : ℕ) → x ≡ NoWord → Reads (midWords k) (mids t) t at o old new Bad
-      unfolding Reads Took
-      mid-word-bad k d n l = mid-worse n (first n l i p e) (word-bad d)
-
-      send-worse : (n : ℕ) → Spaced t n at (o + 1) old m₁ i p → spacedWord (dictionary t) (drop i t) ≡ refused 2 → sends t n (drop at t) ≡ refused 2
-      unfolding sends readSend Spaced
-      send-worse n z k = rw (z .is) (rw k)
+      unfolding Reads Took mids readMid Spaced
+      mid-word-bad k d n l = let z = first n l i p e in rw (z .is) (rw (spaced-refused t i x v d))
 
       pub send-word-bad : (k : ℕ) → x ≡ NoWord → Reads (sendWords k) (sends t) t at o old new Bad
-      unfolding Reads Took
-      send-word-bad k d n l = send-worse n (first n l i p e) (word-bad d)
+      unfolding Reads Took sends readSend Spaced
+      send-word-bad k d n l = let z = first n l i p e in rw (z .is) (rw (spaced-refused t i x v d))
 
   pub two-first-bad : (w : ℕ) → a ≡ Bad → Reads (twoWords w) (twos t) t at o old new Bad
   unfolding Reads Took twos readPair

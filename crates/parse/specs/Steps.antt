@@ -1,16 +1,16 @@
 -- What the functions of the descent answer: the same as the reader does of the text behind the position, with the wide words of
 -- what was read written in their place. The reader's fuel is any number above what is left of the text. Assumes nothing.
 use mathlib.Core.Path.{_≡_}
-use mathlib.Core.List.{List, _∷_, _++_}
+use mathlib.Core.List.{List, _∷_, _++_, map}
 use mathlib.Core.Option.{none, some}
 use Prim.Native.Nat.{ℕ, _+_, _-_, _*_, _≤_, _<_}
 use lib.ListN.{length, drop, set, getElem?}
 use lib.Seq.{sets}
 use Rattle.atlite.specs.Base.{Result, done, refused, _>>=_, orRefuse}
 use Rattle.atlite.specs.Lexicon.{Bytes, close, dictionary}
-use Rattle.atlite.specs.Script.{Src, Srcs, SrcFields, SrcMethods}
-use Rattle.atlite.specs.Table.{countSrcs, countFields, countMethods}
-use Rattle.atlite.specs.Reader.{Reading, operators, operator, item, eat, readWord, spaced, spacedWord, readArgs, readItems, readFields, readMethods, readForm, readExpr}
+use Rattle.atlite.specs.Script.{Src, Srcs, SrcFields, SrcMethods, countSrcs}
+use Rattle.atlite.specs.Table.{countFields, countMethods}
+use Rattle.atlite.specs.Reader.{Reading, operators, operator, item, eat, readWord, spaced, spacedWord, readItems, readFields, readMethods, readForm, readExpr}
 use Rattle.words.specs.Wide.{wide, pair, wideSrc, wideSrcs, wideFields, wideMethods}
 use Rattle.parse.specs.Heads.{readHeader}
 use Rattle.parse.specs.declared.Step.{Step}
@@ -117,6 +117,9 @@ unfoldable pub midWords : ℕ → Src × ℕ × Src → List ℕ
 midWords k v = wide k (v .1) ∷ (wideSrc (v .0) ++ wideSrc (v .2))
 
 -- an expression, a word and arguments
+unfoldable pub readArgs : Reading Src → Reading Srcs
+readArgs R i = readItems Srcs.nil Srcs.cons R 3 i
+
 unfoldable pub readSend : List Bytes → Reading Src → Reading (Src × ℕ × Srcs)
 readSend ws R i = do
   (e, i₁) ← spaced R i
@@ -132,7 +135,7 @@ sendWords k v = wide k (pair (v .1) (countSrcs (v .2))) ∷ (wideSrc (v .0) ++ w
 
 -- what stands behind the operator with the number k
 unfoldable pub formBy : ℕ → List Bytes → Reading Src → Reading Src
-formBy k ws R i = elim (getElem? operators k) [ none ↦ refused 2 | some o ↦ readForm o ws R i ]
+formBy k ws R i = elim (getElem? (map (λ r. r .1) operators) k) [ none ↦ refused 2 | some o ↦ readForm o ws R i ]
 
 unfoldable pub forms : ℕ → Bytes → ℕ → Reading Src
 forms k t n i = formBy k (dictionary t) (readExpr n (dictionary t)) i

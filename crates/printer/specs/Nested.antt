@@ -12,12 +12,12 @@ use Rattle.atlite.specs.Base.{Base, bytes, all, if_then_else_}
 use Rattle.atlite.specs.Term.{this, Kind}
 use Rattle.atlite.specs.Lexicon.{Bytes, inWord, isLetter, isDigit}
 use Rattle.atlite.specs.Valid.{isName, wordsHold}
-use Rattle.atlite.specs.Script.{Src, num, null, var, plus, percent, get, set, call, send, ask, letIn, future, fn, resolve, when, seq, literal, Srcs, nil, cons, SrcFields, noField, field, SrcMethods, noMethod, method, Line, expression, define}
-use Rattle.atlite.specs.Printer.{Printer, digits, printNumber, printItems, form, printWord, printKind, print, printAll, printFields, printMethods, printLine, printScript}
-use Rattle.atlite.specs.Table.{Named, Grammatical, GrammaticalAll, GrammaticalFields, GrammaticalMethods, GrammaticalLines}
-use Rattle.atlite.specs.Reader.{depthFrom, depth}
+use Rattle.atlite.specs.Script.{SrcOp, Src, num, null, var, op, letIn, future, fn, when, literal, Srcs, nil, cons, SrcFields, noField, field, SrcMethods, noMethod, method, Line, expression, define, countSrcs}
+use Rattle.atlite.specs.Printer.{Printer, srcWord, srcNames, placed, digits, printNumber, printItems, form, printWord, printKind, print, printAll, printFields, printMethods, printLine, printScript}
+use Rattle.atlite.specs.Table.{writable, Named, Grammatical, GrammaticalAll, GrammaticalFields, GrammaticalMethods, GrammaticalLines}
+use Rattle.atlite.specs.Reader.{depthFrom, depth, bare, naming}
 use Rattle.atlite.specs.Facts.{and₂}
-use Rattle.reading.specs.Items.{word-parts}
+use Rattle.reading.specs.Items.{word-parts, operator-writes, OpRead, nameless, named, op-read}
 use Rattle.reading.specs.Words.{name-word}
 use Rattle.printer.specs.Nesting.{nesting, nestingAll, nestingFields, nestingMethods, nestingLine, nestingLines}
 
@@ -137,6 +137,18 @@ module _ (ws : List Bytes) (w : wordsHold ws ≡ true) where
   headed : (key : Bytes) {items : List Bytes} {d k : ℕ} → all inWord key ≡ true → Most items d → suc d ≡ k → Passes (form (key ∷ items)) k
   headed key h p e = pass-form (more (pass-word key h) p) (omega arith)
 
+  -- an operator's word is a run of letters, and its names stand behind the first operand
+  op-passes : (o : SrcOp) (n : ℕ) → OpRead o → writable (length ws) o n ≡ true → (all inWord (srcWord o) ≡ true) × Most (srcNames ws o) 0
+  op-passes o n (nameless s) h = let (_, names, _) = operator-writes (srcWord o) (bare o) (s .0) in (s .1, rw (names ws) none)
+  op-passes o n (named c x s) h =
+      let (_, names, _, asks) = operator-writes (srcWord (c x)) (naming c) (s .0) x in
+      (s .1, rw (names ws) (most-as (more (name-passes x (asks (length ws) n .0 h .0)) none) (omega arith)))
+
+  placed-pass : {ns es : List Bytes} {d : ℕ} → Most ns 0 → Most es d → Most (placed ns es) d
+  unfolding placed
+  placed-pass p none = p
+  placed-pass p (more q r) = most-as (more q (most-append p r)) (omega arith)
+
   mutual
     unfolding print Grammatical nesting bytes Base inWord isLetter isDigit printNumber
 
@@ -144,19 +156,11 @@ module _ (ws : List Bytes) (w : wordsHold ws ≡ true) where
     src-passes (num n) g = pass-digits 8 n [] pass-none
     src-passes null g = pass-word (bytes "null") refl
     src-passes (var x) g = variable-passes x g
-    src-passes (plus a b) g = headed (bytes "plus") refl (more (src-passes a (g .0)) (more (src-passes b (g .1)) none)) (omega arith)
-    src-passes (percent a b) g = headed (bytes "percent") refl (more (src-passes a (g .0)) (more (src-passes b (g .1)) none)) (omega arith)
-    src-passes (get e f) g = headed (bytes "get") refl (more (src-passes e (g .0)) (more (name-passes f (g .1)) none)) (omega arith)
-    src-passes (set a f b) g = headed (bytes "set") refl (more (src-passes a (g .0)) (more (name-passes f (g .1)) (more (src-passes b (g .2)) none))) (omega arith)
-    src-passes (call e m es) g = headed (bytes "call") refl (more (src-passes e (g .0)) (more (name-passes m (g .1)) (srcs-pass es (g .3)))) (omega arith)
-    src-passes (send e m es) g = headed (bytes "send") refl (more (src-passes e (g .0)) (more (name-passes m (g .1)) (srcs-pass es (g .3)))) (omega arith)
-    src-passes (ask e m es) g = headed (bytes "ask") refl (more (src-passes e (g .0)) (more (name-passes m (g .1)) (srcs-pass es (g .3)))) (omega arith)
+    src-passes (op o es) g = let p = op-passes o (countSrcs es) (op-read o) (g .0) in headed (srcWord o) (p .0) (placed-pass (p .1) (srcs-pass es (g .1))) refl
     src-passes (letIn x a b) g = headed (bytes "let") refl (more (name-passes x (g .0)) (more (src-passes a (g .1)) (more (src-passes b (g .2)) none))) (omega arith)
     src-passes (future x y e) g = headed (bytes "future") refl (more (name-passes x (g .0)) (more (name-passes y (g .1)) (more (src-passes e (g .2)) none))) (omega arith)
     src-passes (fn x e) g = headed (bytes "fn") refl (more (name-passes x (g .0)) (more (src-passes e (g .1)) none)) (omega arith)
-    src-passes (resolve a b) g = headed (bytes "resolve") refl (more (src-passes a (g .0)) (more (src-passes b (g .1)) none)) (omega arith)
     src-passes (when a x b) g = headed (bytes "when") refl (more (src-passes a (g .0)) (more (name-passes x (g .1)) (more (src-passes b (g .2)) none))) (omega arith)
-    src-passes (seq a b) g = headed (bytes "seq") refl (more (src-passes a (g .0)) (more (src-passes b (g .1)) none)) (omega arith)
     src-passes (literal k fs ms) g = pass-form (more (kind-passes k) (most-append (fields-pass fs (g .1)) (methods-pass ms (g .3)))) (omega arith)
 
     srcs-pass : (es : Srcs) → GrammaticalAll (length ws) es → Most (printAll ws es) (nestingAll es)

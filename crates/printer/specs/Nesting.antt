@@ -3,26 +3,18 @@
 -- were open. Assumes nothing.
 use mathlib.Core.List.{List, [], _∷_}
 use Prim.Native.Nat.{ℕ, suc, max}
-use Rattle.atlite.specs.Script.{Src, num, null, var, plus, percent, get, set, call, send, ask, letIn, future, fn, resolve, when, seq, literal, Srcs, nil, cons, SrcFields, noField, field, SrcMethods, noMethod, method, Line, expression, define}
+use Rattle.atlite.specs.Script.{Src, num, null, var, op, letIn, future, fn, when, literal, Srcs, nil, cons, SrcFields, noField, field, SrcMethods, noMethod, method, Line, expression, define}
 
 unfoldable mutual
   pub nesting : Src → ℕ
   nesting (num n) = 0
   nesting null = 0
   nesting (var x) = 0
-  nesting (plus a b) = suc (max (nesting a) (nesting b))
-  nesting (percent a b) = suc (max (nesting a) (nesting b))
-  nesting (get e f) = suc (nesting e)
-  nesting (set e f d) = suc (max (nesting e) (nesting d))
-  nesting (call e m es) = suc (max (nesting e) (nestingAll es))
-  nesting (send e m es) = suc (max (nesting e) (nestingAll es))
-  nesting (ask e m es) = suc (max (nesting e) (nestingAll es))
+  nesting (op o es) = suc (nestingAll es)
   nesting (letIn x e d) = suc (max (nesting e) (nesting d))
   nesting (future x y e) = suc (nesting e)
   nesting (fn x e) = suc (nesting e)
-  nesting (resolve e d) = suc (max (nesting e) (nesting d))
   nesting (when e x d) = suc (max (nesting e) (nesting d))
-  nesting (seq a b) = suc (max (nesting a) (nesting b))
   nesting (literal k fs ms) = suc (max (nestingFields fs) (nestingMethods ms))
 
   pub nestingAll : Srcs → ℕ

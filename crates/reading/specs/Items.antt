@@ -1,21 +1,25 @@
 -- How the text of items lies before the reader: each behind a space (32), then the closing bracket (41). With the rest of the
 -- text written after them no bracketing of `_++_` is left, so a reader meets the next byte by computing. Then the laws of the
 -- readers' first steps: a run of letters and digits, one byte, given bytes, an operator. Assumes nothing.
-use mathlib.Core.Path.{_≡_, refl, sym, ap, ap₂, _∙_, subst as transp}
-use mathlib.Core.Bool.{Bool, true, false, _&&_, not}
+use mathlib.Core.Path.{_≡_, refl, sym, ap, ap₂, _∙_}
+use mathlib.Core.Bool.{Bool, true, false, false≢true, _&&_, not}
+use mathlib.Core.Logic.{_↔_}
 use mathlib.Core.Option.{none, some}
 use mathlib.Core.List.{List, [], _∷_, _++_, append-assoc, append-nil}
-use Prim.Native.Nat.{ℕ, _≤_, _<_}
+use Prim.Native.Nat.{ℕ, zero, suc, _+_, _≤_, _<_}
 use native.Mathlib.Omega.{arith}
 use lib.ListN.{length, length-append}
 use lib.Dec.{eqb, leb}
-use borrow.Author.Tests.{eqb-true}
-use Rattle.atlite.specs.Base.{Base, if_then_else_, sameBytes, all}
+use borrow.Author.Tests.{eqb-true, leb-true, eq-eqb, le-leb}
+use Rattle.atlite.specs.Base.{Base, bytes, if_then_else_, sameBytes, all}
 use Rattle.atlite.specs.Lexicon.{Bytes, inWord, isLetter, isDigit, letterFirst, isWord, among, reserved}
-use Rattle.atlite.specs.Printer.{printItems, form, printKind}
-use Rattle.atlite.specs.Reader.{item, eat, after, Operator, plus, percent, get, set, call, send, ask, letIn, future, fn, resolve, when, seq, literal, spelling, spelled, operators, operator}
-use Rattle.atlite.specs.Term.{object, isolate, actor}
-use Rattle.atlite.specs.Facts.{none-some, and₂, same-true, Every, holds, nothing, checked}
+use Rattle.atlite.specs.Term.{Term·all, plain, plus, percent, get, set, call, send, Kind, object, isolate, actor}
+use Rattle.atlite.specs.Valid.{All, isName, callable, sendable, operable}
+use Rattle.atlite.specs.Script.{SrcOp, kept, ask, resolve, seq, srcShape}
+use Rattle.atlite.specs.Printer.{Printer, printItems, form, printWord, printKind, srcWord, srcNames, placed}
+use Rattle.atlite.specs.Reader.{item, eat, after, Operator, bare, naming, letIn, future, fn, when, literal, least, more, spelled, operators, operator}
+use Rattle.atlite.specs.Table.{writable}
+use Rattle.atlite.specs.Facts.{none-some, and₂, both₂, same-true, Every, holds, nothing, checked}
 
 -- items, each behind a space, then j
 abbrev pub behind : List Bytes → Bytes → Bytes
@@ -121,40 +125,120 @@ after-whole (b ∷ w) (c ∷ i) j h = go (eqb b c) refl h (after-whole w i j)
     go true e p ih = ap₂ {C = Bytes} (λ x y. x ∷ y) (eqb-true b c e) (ih p)
     go false e p ih = absurd (none-some p)
 
--- operators and their words
-spelled-word : (os : List Operator) (w : Bytes) (o : Operator) → spelled os w ≡ some o → spelling o ≡ w
+-- names stand behind the first operand, so where there are none the operands stand alone
+pub placed-none : (es : List Bytes) → placed [] es ≡ es
+unfolding placed
+placed-none [] = refl
+placed-none (e ∷ es) = refl
+
+-- ---- operators and their words
+-- Under a dictionary of w words an operator may have n operands just where the reader takes so many and t holds, that its name is a word.
+abbrev Asks : SrcOp → (ℕ → Bool) → Type 0
+Asks o t =
+    (w n : ℕ) → (writable w o n ≡ true)
+    ↔ ((t w ≡ true) × (least (srcShape o) ≤ n) × (n ≤ least (srcShape o) + more (srcShape o)))
+
+-- What is read behind the word w is written with that word again and with the name that was read, if any. An operator that takes a name
+-- has at least one operand, since the name stands behind it.
+abbrev pub Writes : Bytes → Operator → Type 0
+Writes w (bare o) = (srcWord o ≡ w) × ((ws : List Bytes) → srcNames ws o ≡ []) × Asks o (λ w. true)
+Writes w (naming c) =
+    (x : ℕ) → (srcWord (c x) ≡ w) × ((ws : List Bytes) → srcNames ws (c x) ≡ printWord ws x ∷ [])
+    × (0 < least (srcShape (c x))) × Asks (c x) (λ w. isName w x)
+Writes w letIn = bytes "let" ≡ w
+Writes w future = bytes "future" ≡ w
+Writes w fn = bytes "fn" ≡ w
+Writes w when = bytes "when" ≡ w
+Writes w (literal k) = printKind k ≡ w
+
+-- the two ways to ask for operands: so many, or a receiver and at most three arguments
+exactly-asks : (b : Bool) (k n : ℕ) → ((b && eqb n k) ≡ true) ↔ ((b ≡ true) × (k ≤ n) × (n ≤ k + 0))
+exactly-asks b k n = (
+  λ h. let (t, e) = and₂ b (eqb n k) h in let i = eqb-true n k e in (t, omega arith, omega arith),
+  λ (t, low, high). both₂ t (eq-eqb n k (omega arith)),
+)
+
+receiver-asks : (f : ℕ → Bool) (b : Bool) → f 0 ≡ false → ((n : ℕ) → f (suc n) ≡ (b && leb n 3)) → (n : ℕ) → (f n ≡ true) ↔ ((b ≡ true) × (0 < n) × (n ≤ 4))
+receiver-asks f b z s zero = (λ h. absurd (false≢true (sym z ∙ h)), λ (t, low, high). absurd (omega arith))
+receiver-asks f b z s (suc n) = (
+  λ h. let (t, e) = and₂ b (leb n 3) (sym (s n) ∙ h) in let i = leb-true n 3 e in (t, omega arith, omega arith),
+  λ (t, low, high). s n ∙ both₂ t (le-leb n 3 (omega arith)),
+)
+
+pub call-few : (w m n : ℕ) → operable w (call (plain m)) n ≡ true → (isName w m ≡ true) × (0 < n) × (n ≤ 4)
+unfolding callable
+call-few w m n h = receiver-asks (operable w (call (plain m))) (isName w m) refl (λ n. refl) n .0 h
+
+pub send-few : (w m n : ℕ) → operable w (send (plain m)) n ≡ true → (isName w m ≡ true) × (0 < n) × (n ≤ 4)
+unfolding sendable
+send-few w m n h = receiver-asks (operable w (send (plain m))) (isName w m) refl (λ n. refl) n .0 h
+
+-- what the words of operators and forms compute by
+unfoldable pub Words : Unit {0}
+unfolding Term·all Printer operators spelled operator inWord isLetter isDigit callable sendable Base
+Words = tt
+
+row : {A B : Type 0} → A → B → A × B
+row h r = (h, r)
+
+-- the table of the reader, row by row
+rows : All (λ r. Writes (r .0) (r .1)) operators
+unfolding Words
+rows =
+    row (refl, λ ws. refl, λ w n. exactly-asks true 2 n)
+    (row (refl, λ ws. refl, λ w n. exactly-asks true 2 n)
+    (row (λ x. (refl, λ ws. refl, omega arith, λ w n. exactly-asks (isName w x) 1 n))
+    (row (λ x. (refl, λ ws. refl, omega arith, λ w n. exactly-asks (isName w x) 2 n))
+    (row (λ x. (refl, λ ws. refl, omega arith, λ w n. receiver-asks (λ n. writable w (kept (call x)) n) (isName w x) refl (λ n. refl) n))
+    (row (λ x. (refl, λ ws. refl, omega arith, λ w n. receiver-asks (λ n. writable w (kept (send x)) n) (isName w x) refl (λ n. refl) n))
+    (row (λ x. (refl, λ ws. refl, omega arith, λ w n. receiver-asks (λ n. writable w (ask x) n) (isName w x) refl (λ n. refl) n))
+    (row refl
+    (row refl
+    (row refl
+    (row (refl, λ ws. refl, λ w n. exactly-asks true 2 n)
+    (row refl
+    (row (refl, λ ws. refl, λ w n. exactly-asks true 2 n)
+    (row refl
+    (row refl
+    (row refl tt)))))))))))))))
+
+spelled-row : (rs : List (Bytes × Operator)) (w : Bytes) (o : Operator) → All (λ r. Writes (r .0) (r .1)) rs → spelled rs w ≡ some o → Writes w o
 unfolding spelled if_then_else_
-spelled-word [] w o h = absurd (none-some h)
-spelled-word (u ∷ os) w o h = go (sameBytes (spelling u) w) refl h (spelled-word os w o)
+spelled-row [] w o a h = absurd (none-some h)
+spelled-row (r ∷ rs) w o a h = go (sameBytes (r .0) w) refl h (spelled-row rs w o (a .1))
   where
-    go : (t : Bool) → sameBytes (spelling u) w ≡ t → (if t then some u else spelled os w) ≡ some o
-        → (spelled os w ≡ some o → spelling o ≡ w) → spelling o ≡ w
-    go true e p ih = let q : u ≡ o = cc in transp (λ x. spelling x ≡ w) q (same-true (spelling u) w e)
+    go : (t : Bool) → sameBytes (r .0) w ≡ t → (if t then some (r .1) else spelled rs w) ≡ some o → (spelled rs w ≡ some o → Writes w o)
+        → Writes w o
+    go true e p ih = let q : r .1 ≡ o = cc in rw (← same-true (r .0) w e, ← q) (a .0)
     go false e p ih = ih p
 
-pub operator-word : (w : Bytes) (o : Operator) → operator w ≡ some o → spelling o ≡ w
+pub operator-writes : (w : Bytes) (o : Operator) → operator w ≡ some o → Writes w o
 unfolding operator
-operator-word w o h = spelled-word operators w o h
+operator-writes w o h = spelled-row operators w o rows h
 
--- its word is read as the operator, and is a run of letters
-abbrev pub Spelt : Operator → Type 0
-Spelt o = (operator (spelling o) ≡ some o) × (all inWord (spelling o) ≡ true)
+-- the word is read as the operator, and is a run of letters
+abbrev pub Spelt : Bytes → Operator → Type 0
+Spelt w o = (operator w ≡ some o) × (all inWord w ≡ true)
 
-pub spelt : (o : Operator) → Spelt o
-unfolding spelling operators spelled operator printKind inWord isLetter isDigit Base
-spelt plus = (refl, refl)
-spelt percent = (refl, refl)
-spelt get = (refl, refl)
-spelt set = (refl, refl)
-spelt call = (refl, refl)
-spelt send = (refl, refl)
-spelt ask = (refl, refl)
-spelt letIn = (refl, refl)
-spelt future = (refl, refl)
-spelt fn = (refl, refl)
-spelt resolve = (refl, refl)
-spelt when = (refl, refl)
-spelt seq = (refl, refl)
-spelt (literal object) = (refl, refl)
-spelt (literal isolate) = (refl, refl)
-spelt (literal actor) = (refl, refl)
+-- how the word of an operator is read, so that the operator comes back with its name
+pub data OpRead : SrcOp → Type 0 where
+  nameless : {o : SrcOp} → Spelt (srcWord o) (bare o) → OpRead o
+  named : (c : ℕ → SrcOp) (x : ℕ) → Spelt (srcWord (c x)) (naming c) → OpRead (c x)
+
+pub op-read : (o : SrcOp) → OpRead o
+unfolding Words
+op-read (kept plus) = nameless (refl, refl)
+op-read (kept percent) = nameless (refl, refl)
+op-read (kept (get f)) = named (λ f. kept (get f)) f (refl, refl)
+op-read (kept (set f)) = named (λ f. kept (set f)) f (refl, refl)
+op-read (kept (call m)) = named (λ m. kept (call m)) m (refl, refl)
+op-read (kept (send m)) = named (λ m. kept (send m)) m (refl, refl)
+op-read (ask m) = named ask m (refl, refl)
+op-read resolve = nameless (refl, refl)
+op-read seq = nameless (refl, refl)
+
+pub literal-read : (k : Kind) → Spelt (printKind k) (literal k)
+unfolding Words
+literal-read object = (refl, refl)
+literal-read isolate = (refl, refl)
+literal-read actor = (refl, refl)

@@ -2,8 +2,9 @@
 -- being sound if the reader of its expressions is. Assumes nothing.
 use mathlib.Core.Path.{_≡_, refl, sym, ap, ap₂, _∙_}
 use mathlib.Core.Bool.{true}
+use mathlib.Core.Logic.{_↔_}
 use mathlib.Core.List.{List, [], _∷_, _++_, map, append-assoc}
-use Prim.Native.Nat.{ℕ, zero, suc, _≤_}
+use Prim.Native.Nat.{ℕ, zero, suc, _+_, _-_, _≤_}
 use native.Mathlib.Omega.{arith}
 use lib.ListN.{length}
 use lib.Dec.{eqb}
@@ -11,15 +12,15 @@ use borrow.Author.Tests.{eqb-true}
 use Rattle.atlite.specs.Base.{Base, bytes, sameBytes, all}
 use Rattle.atlite.specs.Term.{this}
 use Rattle.atlite.specs.Lexicon.{Bytes, isWord, isNumber, numberOf}
-use Rattle.atlite.specs.Script.{Src, Srcs, nil, cons, noField, field, noMethod, method, Line, expression, define}
-use Rattle.atlite.specs.Printer.{Printer, form, printWord, known, print, printAll, printFields, printMethods, printLine, printScript, printKind}
-use Rattle.atlite.specs.Reader.{Reading, item, after, atom, readAtom, readWord, spaced, spacedWord, readItems, readArgs, readParams, readNames, readHead, readFields, readMethods, Operator, plus, percent, get, set, call, send, ask, letIn, future, fn, resolve, when, seq, literal, spelling, operator, readTwo, readBetween, readMessage, readForm, readExpr, readDefinition, readLine, readLines}
+use Rattle.atlite.specs.Script.{Src, nil, cons, noField, field, noMethod, method, Line, expression, define, countSrcs, srcShape}
+use Rattle.atlite.specs.Printer.{Printer, form, printWord, known, print, printAll, printFields, printMethods, printLine, printScript, placed}
+use Rattle.atlite.specs.Reader.{Reading, item, after, atom, readAtom, readWord, spaced, spacedWord, readItems, readOperands, readParams, readNames, readHead, readFields, readMethods, Operator, bare, naming, letIn, future, fn, when, literal, operator, least, more, readForm, readExpr, readDefinition, readLine, readLines}
 use Rattle.atlite.specs.Valid.{isName}
-use Rattle.atlite.specs.Table.{countSrcs, countFields, countMethods, Named, Grammatical, GrammaticalAll, GrammaticalFields, GrammaticalMethods, GrammaticalLines}
+use Rattle.atlite.specs.Table.{countFields, countMethods, Named, Grammatical, GrammaticalAll, GrammaticalFields, GrammaticalMethods, GrammaticalLines}
 use Rattle.atlite.specs.Facts.{both₂, or-right, same-true, Every, holds, nothing, every-bind, every-weaken, checked, every-found, every-if, every-test, every-option}
 use Rattle.reading.specs.Numbers.{number-print, number-top}
 use Rattle.reading.specs.Words.{number-word}
-use Rattle.reading.specs.Items.{behind, closing, behind-append, form-closing, item-whole, eat-reads, after-whole, operator-word}
+use Rattle.reading.specs.Items.{behind, closing, behind-append, form-closing, item-whole, eat-reads, after-whole, placed-none, Writes, operator-writes}
 
 -- What a reader gives has the property G, and its text stood before what is left.
 abbrev pub Sound : {A : Type 0} → (A → Type 0) → (A → Bytes) → Reading A → Type 0
@@ -47,9 +48,9 @@ items-sound end more G text R H Text s h₀ h₁ t₀ t₁ (suc k) i =
     holds (h₁ k a l (p .0) (q .0), t₁ a l i₂ ∙ ap {B = Bytes} (λ j. 32 ∷ (text a ++ j)) (q .1) ∙ p .1))))
     (λ j e. holds (h₀ (suc k), t₀ j ∙ after-whole (41 ∷ []) i j e))
 
--- the text of a form, from the text behind its operator
-built : (w : Bytes) (items : List Bytes) (i j : Bytes) → closing items j ≡ i → form (w ∷ items) ++ j ≡ 40 ∷ (w ++ i)
-built w items i j p = form-closing w items j ∙ ap {B = Bytes} (λ k. 40 ∷ (w ++ k)) p
+-- the text of a form, from the text behind its operator's word
+built : {v w : Bytes} → v ≡ w → (items : List Bytes) (i j : Bytes) → closing items j ≡ i → form (v ∷ items) ++ j ≡ 40 ∷ (w ++ i)
+built {v} e items i j p = form-closing v items j ∙ ap₂ {C = Bytes} (λ u k. 40 ∷ (u ++ k)) e p
 
 module _ (ws : List Bytes) where
   word-sound : Sound (Named (length ws)) (printWord ws) (readWord ws)
@@ -93,24 +94,27 @@ module _ (ws : List Bytes) where
       every-found 2 (after (bytes " (") i) (λ i₁ e.
       let p = after-whole (bytes " (") i i₁ e in
       every-option (after (41 ∷ []) i₁)
-      (λ _. every-bind (word-sound i₁) (λ (x, i₂) q. every-bind (params-sound i₂) (λ (xs, i₃) r.
-      let l = r .0 .0 in
+      (λ _. every-bind (word-sound i₁) (λ (x, i₂) (n, a). every-bind (params-sound i₂) (λ (xs, i₃) ((l, ns), b).
       let t = form-closing (printWord ws x) (map (printWord ws) xs) i₃ in
-      holds ((omega arith, both₂ (q .0) (r .0 .1)), cc (t, r .1, q .1, p)))))
+      holds ((omega arith, both₂ n ns), cc))))
       (λ j f. holds ((omega arith, refl), ap {B = Bytes} (λ k. 32 ∷ 40 ∷ k) (after-whole (41 ∷ []) i₁ j f) ∙ p)))
 
   module _ (R : Reading Src) (s : Sound (Grammatical (length ws)) (print ws) R) where
     next : Sound (Grammatical (length ws)) (λ e. 32 ∷ print ws e) (spaced R)
     next i = spaced-sound (Grammatical (length ws)) (print ws) R s i
 
-    args-sound : (i : Bytes)
-        → Every (λ r. ((countSrcs (r .0) ≤ 3) × GrammaticalAll (length ws) (r .0)) × (closing (printAll ws (r .0)) (r .1) ≡ i))
-        (readArgs R i)
-    unfolding readArgs countSrcs Grammatical print
-    args-sound i =
-        items-sound nil cons (Grammatical (length ws)) (print ws) R (λ k es. (countSrcs es ≤ k) × GrammaticalAll (length ws) es)
-        (λ es j. closing (printAll ws es) j) s
-        (λ k. (omega arith, tt)) (λ k e es g h. let l = h .0 in (omega arith, (g, h .1))) (λ j. refl) (λ e es j. refl) 3 i
+    -- k operands, at most n more, and the closing bracket
+    operands-sound : (k n : ℕ) (i : Bytes)
+        → Every (λ r. ((k ≤ countSrcs (r .0)) × (countSrcs (r .0) ≤ k + n) × GrammaticalAll (length ws) (r .0)) × (closing (printAll ws (r .0)) (r .1) ≡ i))
+        (readOperands R k n i)
+    unfolding readOperands Grammatical print countSrcs
+    operands-sound zero n i =
+        items-sound nil cons (Grammatical (length ws)) (print ws) R (λ n es. (0 ≤ countSrcs es) × (countSrcs es ≤ 0 + n) × GrammaticalAll (length ws) es)
+        (λ es j. closing (printAll ws es) j) s (λ n. (omega arith, omega arith, tt)) (λ n e es g (_, most, gs). (omega arith, omega arith, (g, gs)))
+        (λ j. refl) (λ e es j. refl) n i
+    operands-sound (suc k) n i =
+        every-bind (next i) (λ (e, i₁) (g, t). every-bind (operands-sound k n i₁) (λ (es, i₂) ((least, most, gs), ts).
+        holds ((omega arith, omega arith, (g, gs)), cc)))
 
     fields-sound : (k : ℕ) (i : Bytes)
         → Every (λ r. (countFields (r .0) ≤ k) × GrammaticalFields (length ws) (r .0) × (behind (printFields ws (r .0)) (r .1) ≡ i))
@@ -119,11 +123,10 @@ module _ (ws : List Bytes) where
     fields-sound zero i = holds {a = (noField, i)} (omega arith, tt, refl)
     fields-sound (suc k) i =
         every-option (after (bytes " (field ") i) (λ _. holds (omega arith, tt, refl)) (λ i₁ h.
-        every-bind (word-sound i₁) (λ (f, i₂) p. every-bind (next i₂) (λ (e, i₃) q. every-bind (eat-reads 41 i₃) (λ i₄ u.
-        every-bind (fields-sound k i₄) (λ (fs, i₅) r.
-        let l = r .0 in
+        every-bind (word-sound i₁) (λ (f, i₂) (n, a). every-bind (next i₂) (λ (e, i₃) (g, b). every-bind (eat-reads 41 i₃) (λ i₄ c.
+        every-bind (fields-sound k i₄) (λ (fs, i₅) (few, gs, d).
         let t = form-closing (bytes "field") (printWord ws f ∷ print ws e ∷ []) (behind (printFields ws fs) i₅) in
-        holds (omega arith, (p .0, q .0, r .1), cc (t, p .1, q .1, u, r .2, after-whole (bytes " (field ") i i₁ h)))))))
+        holds (omega arith, (n, g, gs), cc (after-whole (bytes " (field ") i i₁ h)))))))
 
     methods-sound : (k : ℕ) (i : Bytes)
         → Every (λ r. (countMethods (r .0) ≤ k) × GrammaticalMethods (length ws) (r .0) × (behind (printMethods ws (r .0)) (r .1) ≡ i))
@@ -132,75 +135,44 @@ module _ (ws : List Bytes) where
     methods-sound zero i = holds {a = (noMethod, i)} (omega arith, tt, refl)
     methods-sound (suc k) i =
         every-option (after (bytes " (method ") i) (λ _. holds (omega arith, tt, refl)) (λ i₁ h.
-        every-bind (word-sound i₁) (λ (m, i₂) p. every-bind (head-sound i₂) (λ (xs, i₃) v. every-bind (next i₃) (λ (e, i₄) q.
-        every-bind (eat-reads 41 i₄) (λ i₅ u. every-bind (methods-sound k i₅) (λ (ms, i₆) r.
-        let l = r .0 in
-        let t =
-        form-closing (bytes "method") (printWord ws m ∷ form (map (printWord ws) xs) ∷ print ws e ∷ []) (behind (printMethods ws ms) i₆) in
-        holds (
-          omega arith,
-          (p .0, v .0 .0, v .0 .1, q .0, r .1),
-          cc (t, p .1, v .1, q .1, u, r .2, after-whole (bytes " (method ") i i₁ h),
-        )))))))
+        every-bind (word-sound i₁) (λ (m, i₂) (n, a). every-bind (head-sound i₂) (λ (xs, i₃) ((l, ns), b). every-bind (next i₃) (λ (e, i₄) (g, c).
+        every-bind (eat-reads 41 i₄) (λ i₅ d. every-bind (methods-sound k i₅) (λ (ms, i₆) (few, gs, u).
+        let items = printWord ws m ∷ form (map (printWord ws) xs) ∷ print ws e ∷ [] in
+        let t = form-closing (bytes "method") items (behind (printMethods ws ms) i₆) in
+        holds (omega arith, (n, l, ns, g, gs), cc (after-whole (bytes " (method ") i i₁ h))))))))
 
-    two-sound : (c : Src → Src → Src) (Q : Src × Bytes → Type 0) (i : Bytes)
-        → ((a b : Src) (j : Bytes) → Grammatical (length ws) a → Grammatical (length ws) b
-        → closing (print ws a ∷ print ws b ∷ []) j ≡ i → Q (c a b, j))
-        → Every Q (readTwo c R i)
-    unfolding readTwo
-    two-sound c Q i k =
-        every-bind (next i) (λ (a, i₁) p. every-bind (next i₁) (λ (b, i₂) q. every-bind (eat-reads 41 i₂) (λ j u.
-        holds (k a b j (p .0) (q .0) (cc (p .1, q .1, u))))))
-
-    between-sound : (c : Src → ℕ → Src → Src) (Q : Src × Bytes → Type 0) (i : Bytes)
-        → ((a : Src) (x : ℕ) (b : Src) (j : Bytes) → Grammatical (length ws) a → Named (length ws) x → Grammatical (length ws) b
-        → closing (print ws a ∷ printWord ws x ∷ print ws b ∷ []) j ≡ i → Q (c a x b, j))
-        → Every Q (readBetween c ws R i)
-    unfolding readBetween
-    between-sound c Q i k =
-        every-bind (next i) (λ (a, i₁) p. every-bind (spacedWord-sound i₁) (λ (x, i₂) v. every-bind (next i₂) (λ (b, i₃) q.
-        every-bind (eat-reads 41 i₃) (λ j u. holds (k a x b j (p .0) (v .0) (q .0) (cc (p .1, v .1, q .1, u)))))))
-
-    message-sound : (c : Src → ℕ → Srcs → Src) (Q : Src × Bytes → Type 0) (i : Bytes)
-        → ((e : Src) (m : ℕ) (es : Srcs) (j : Bytes)
-        → Grammatical (length ws) e × Named (length ws) m × (countSrcs es ≤ 3) × GrammaticalAll (length ws) es
-        → closing (print ws e ∷ printWord ws m ∷ printAll ws es) j ≡ i → Q (c e m es, j))
-        → Every Q (readMessage c ws R i)
-    unfolding readMessage
-    message-sound c Q i k =
-        every-bind (next i) (λ (e, i₁) p. every-bind (spacedWord-sound i₁) (λ (m, i₂) v. every-bind (args-sound i₂) (λ (es, j) q.
-        holds (k e m es j (p .0, v .0, q .0 .0, q .0 .1) (cc (p .1, v .1, q .1))))))
-
-    form-sound : (o : Operator) (i : Bytes)
-        → Every (λ r. Grammatical (length ws) (r .0) × (print ws (r .0) ++ r .1 ≡ 40 ∷ (spelling o ++ i))) (readForm o ws R i)
-    unfolding readForm spelling Grammatical print
-    form-sound plus i = two-sound Src.plus _ i (λ a b j g h p. ((g, h), built (bytes "plus") _ i j p))
-    form-sound percent i = two-sound Src.percent _ i (λ a b j g h p. ((g, h), built (bytes "percent") _ i j p))
-    form-sound get i =
-        every-bind (next i) (λ (e, i₁) p. every-bind (spacedWord-sound i₁) (λ (f, i₂) v. every-bind (eat-reads 41 i₂) (λ j u.
-        holds ((p .0, v .0), built (bytes "get") (print ws e ∷ printWord ws f ∷ []) i j (cc (p .1, v .1, u))))))
-    form-sound set i = between-sound Src.set _ i (λ a x b j g n h p. ((g, n, h), built (bytes "set") _ i j p))
-    form-sound call i = message-sound Src.call _ i (λ e m es j g p. (g, built (bytes "call") _ i j p))
-    form-sound send i = message-sound Src.send _ i (λ e m es j g p. (g, built (bytes "send") _ i j p))
-    form-sound ask i = message-sound Src.ask _ i (λ e m es j g p. (g, built (bytes "ask") _ i j p))
-    form-sound letIn i =
+    form-sound : (o : Operator) (w i : Bytes) → Writes w o
+        → Every (λ r. Grammatical (length ws) (r .0) × (print ws (r .0) ++ r .1 ≡ 40 ∷ (w ++ i))) (readForm o ws R i)
+    unfolding readForm Grammatical print placed countSrcs
+    form-sound (bare o) w i (word, names, asks) =
+        every-bind (operands-sound (least (srcShape o)) (more (srcShape o)) i) (λ (es, j) ((low, high, gs), t).
+        let h = asks (length ws) (countSrcs es) .1 (refl, low, high) in
+        holds ((h, gs), rw (names ws, placed-none (printAll ws es)) (built word (printAll ws es) i j t)))
+    form-sound (naming c) w i z =
+        every-bind (next i) (λ (e, i₁) (g, a). every-bind (spacedWord-sound i₁) (λ (x, i₂) (n, b).
+        every-bind (operands-sound (least (srcShape (c x)) - 1) (more (srcShape (c x))) i₂) (λ (es, j) ((low, high, gs), t).
+        let (word, names, first, asks) = z x in
+        let h = asks (length ws) (countSrcs (cons e es)) .1 (n, omega arith, omega arith) in
+        holds ((h, (g, gs)), rw (names ws) (built word (print ws e ∷ printWord ws x ∷ printAll ws es) i j (cc))))))
+    form-sound letIn w i z =
         every-bind (spacedWord-sound i) (λ (x, i₁) v. every-bind (next i₁) (λ (e, i₂) p.
         every-bind (next i₂) (λ (d, i₃) q. every-bind (eat-reads 41 i₃) (λ j u.
-        holds ((v .0, p .0, q .0), built (bytes "let") (printWord ws x ∷ print ws e ∷ print ws d ∷ []) i j (cc (v .1, p .1, q .1, u)))))))
-    form-sound future i =
+        holds ((v .0, p .0, q .0), built z (printWord ws x ∷ print ws e ∷ print ws d ∷ []) i j (cc (v .1, p .1, q .1, u)))))))
+    form-sound future w i z =
         every-bind (spacedWord-sound i) (λ (x, i₁) v. every-bind (spacedWord-sound i₁) (λ (y, i₂) q.
         every-bind (next i₂) (λ (e, i₃) p. every-bind (eat-reads 41 i₃) (λ j u.
-        holds ((v .0, q .0, p .0), built (bytes "future") (printWord ws x ∷ printWord ws y ∷ print ws e ∷ []) i j (cc (v .1, p .1, q .1, u)))))))
-    form-sound fn i =
+        holds ((v .0, q .0, p .0), built z (printWord ws x ∷ printWord ws y ∷ print ws e ∷ []) i j (cc (v .1, p .1, q .1, u)))))))
+    form-sound fn w i z =
         every-bind (spacedWord-sound i) (λ (x, i₁) v. every-bind (next i₁) (λ (e, i₂) p. every-bind (eat-reads 41 i₂) (λ j u.
-        holds ((v .0, p .0), built (bytes "fn") (printWord ws x ∷ print ws e ∷ []) i j (cc (v .1, p .1, u))))))
-    form-sound resolve i = two-sound Src.resolve _ i (λ a b j g h p. ((g, h), built (bytes "resolve") _ i j p))
-    form-sound when i = between-sound Src.when _ i (λ a x b j g n h p. ((g, n, h), built (bytes "when") _ i j p))
-    form-sound seq i = two-sound Src.seq _ i (λ a b j g h p. ((g, h), built (bytes "seq") _ i j p))
-    form-sound (literal k) i =
+        holds ((v .0, p .0), built z (printWord ws x ∷ print ws e ∷ []) i j (cc (v .1, p .1, u))))))
+    form-sound when w i z =
+        every-bind (next i) (λ (a, i₁) p. every-bind (spacedWord-sound i₁) (λ (x, i₂) v. every-bind (next i₂) (λ (b, i₃) q.
+        every-bind (eat-reads 41 i₃) (λ j u.
+        holds ((p .0, v .0, q .0), built z (print ws a ∷ printWord ws x ∷ print ws b ∷ []) i j (cc (p .1, v .1, q .1, u)))))))
+    form-sound (literal k) w i z =
         every-bind (fields-sound 4 i) (λ (fs, i₁) p. every-bind (methods-sound 4 i₁) (λ (ms, i₂) q. every-bind (eat-reads 41 i₂) (λ j u.
         let t = behind-append (printFields ws fs) (printMethods ws ms) (41 ∷ j) in
-        holds ((p .0, p .1, q .0, q .1), built (printKind k) (printFields ws fs ++ printMethods ws ms) i j (cc (t, p .2, q .2, u))))))
+        holds ((p .0, p .1, q .0, q .1), built z (printFields ws fs ++ printMethods ws ms) i j (cc (t, p .2, q .2, u))))))
 
   pub expr-sound : (n : ℕ) → Sound (Grammatical (length ws)) (print ws) (readExpr n ws)
   unfolding readExpr
@@ -209,11 +181,8 @@ module _ (ws : List Bytes) where
   expr-sound (suc n) (b ∷ i) =
       every-test (eqb b 40)
       (λ h. every-found 2 (operator (item i .0)) (λ o e.
-      every-weaken (form-sound (readExpr n ws) (λ j. expr-sound n j) o (item i .1)) (λ r p. (
-        p .0,
-        p .1 ∙ ap₂ {C = Bytes} (λ c w. c ∷ (w ++ item i .1)) (sym (eqb-true b 40 h)) (operator-word (item i .0) o e)
-            ∙ ap {B = Bytes} (λ j. b ∷ j) (item-whole i),
-      ))))
+      every-weaken (form-sound (readExpr n ws) (λ j. expr-sound n j) o (item i .0) (item i .1) (operator-writes (item i .0) o e)) (λ r p.
+      (p .0, p .1 ∙ ap₂ {C = Bytes} (λ c j. c ∷ j) (sym (eqb-true b 40 h)) (item-whole i)))))
       (λ _. readAtom-sound (b ∷ i))
 
   abbrev pub GrammaticalLine : Line → Type 0
@@ -233,11 +202,11 @@ module _ (ws : List Bytes) where
       let t = form-closing (bytes "def") (printWord ws x ∷ print ws e ∷ []) (10 ∷ j) in
       holds ((v .0, p .0), cc (append-assoc w (10 ∷ []) j, t, v .1, p .1, u, y, after-whole (bytes "(def ") i i₁ h)))))))
 
-  grammatical-cons : (l : Line) (ls : List Line) → GrammaticalLine l → GrammaticalLines (length ws) ls
-      → GrammaticalLines (length ws) (l ∷ ls)
+  pub lines-grammatical : (l : Line) (ls : List Line)
+      → GrammaticalLines (length ws) (l ∷ ls) ↔ (GrammaticalLine l × GrammaticalLines (length ws) ls)
   unfolding GrammaticalLines
-  grammatical-cons (expression e) ls h k = (h, k)
-  grammatical-cons (define x e) ls h k = (h .0, h .1, k)
+  lines-grammatical (expression e) ls = (λ g. g, λ g. g)
+  lines-grammatical (define x e) ls = (λ g. ((g .0, g .1), g .2), λ g. (g .0 .0, g .0 .1, g .1))
 
   pub lines-sound : (n : ℕ) (i : Bytes) → Every (λ ls. GrammaticalLines (length ws) ls × (printScript ws ls ≡ i)) (readLines n ws i)
   unfolding readLines printScript GrammaticalLines
@@ -245,4 +214,4 @@ module _ (ws : List Bytes) where
   lines-sound (suc n) [] = holds {a = []} (tt, refl)
   lines-sound (suc n) (b ∷ i) =
       every-bind (line-sound (suc n) (b ∷ i)) (λ (l, i₁) p. every-bind (lines-sound n i₁) (λ ls q.
-      holds (grammatical-cons l ls (p .0) (q .0), ap {B = Bytes} (λ j. printLine ws l ++ j) (q .1) ∙ p .1)))
+      holds (lines-grammatical l ls .1 (p .0, q .0), ap {B = Bytes} (λ j. printLine ws l ++ j) (q .1) ∙ p .1)))

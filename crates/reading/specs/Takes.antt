@@ -4,7 +4,7 @@ use mathlib.Core.Path.{_≡_, refl, sym, ap, _∙_, subst as transp}
 use mathlib.Core.Bool.{Bool, true, false, false≢true, _||_}
 use mathlib.Core.Option.{none}
 use mathlib.Core.List.{List, [], _∷_, _++_, map}
-use Prim.Native.Nat.{ℕ, zero, suc, _≤_}
+use Prim.Native.Nat.{ℕ, zero, suc, _≤_, _<_}
 use native.Mathlib.Omega.{arith}
 use lib.ListN.{length}
 use lib.Dec.{eqb, leb}
@@ -25,19 +25,6 @@ use Rattle.reading.specs.Items.{word-parts, closing, form-closing, Ends,
 -- the reader takes the text w for a
 abbrev pub Takes : {A : Type 0} → Reading A → Bytes → A → Type 0
 Takes R w a = (j : Bytes) → Ends j → R (w ++ j) ≡ done (a, j)
-
--- the bytes that stand behind words and numbers
-pub space-ends : inWord 32 ≡ false
-unfolding inWord isLetter isDigit
-space-ends = refl
-
-pub close-ends : inWord 41 ≡ false
-unfolding inWord isLetter isDigit
-close-ends = refl
-
-pub newline-ends : inWord 10 ≡ false
-unfolding inWord isLetter isDigit
-newline-ends = refl
 
 letter-digit : (b : ℕ) → isLetter b ≡ true → isDigit b ≡ false
 unfolding isLetter isDigit
@@ -121,32 +108,33 @@ module _ (ws : List Bytes) (held : wordsHold ws ≡ true) where
   unfolding atom if_then_else_
   num-atom n h = rw (print-number n h) (ap (λ m. done (Src.num m)) (decimal-print n h))
 
-  -- an atom is read as such wherever an expression may stand
-  atom-takes : (n : ℕ) (w : Bytes) (e : Src) → all inWord w ≡ true → atom ws w ≡ done e → Takes (readExpr (suc n) ws) w e
+  -- an atom is read as such wherever an expression may stand, with any fuel
+  atom-takes : (n : ℕ) → 0 < n → (w : Bytes) (e : Src) → all inWord w ≡ true → atom ws w ≡ done e → Takes (readExpr n ws) w e
   unfolding readExpr readAtom all atom Base Lexicon
-  atom-takes n [] e h p j d = absurd (refused-done p)
-  atom-takes n (b ∷ w) e h p j d =
+  atom-takes zero l w e h p j d = absurd (omega arith)
+  atom-takes (suc n) l [] e h p j d = absurd (refused-done p)
+  atom-takes (suc n) l (b ∷ w) e h p j d =
       rw (no-open b (and₂ (inWord b) (all inWord w) h .0), readExpr) (rw (item-run (b ∷ w) j h d, p))
 
-  pub num-takes : (n m : ℕ) → m ≤ top → Takes (readExpr (suc n) ws) (printNumber m) (Src.num m)
-  num-takes n m h =
-      atom-takes n (printNumber m) (Src.num m) (number-run (printNumber m) (number-digits (printNumber m) (print-number m h))) (num-atom m h)
+  pub num-takes : (n m : ℕ) → 0 < n → m ≤ top → Takes (readExpr n ws) (printNumber m) (Src.num m)
+  num-takes n m l h =
+      atom-takes n l (printNumber m) (Src.num m) (number-run (printNumber m) (number-digits (printNumber m) (print-number m h))) (num-atom m h)
 
-  pub null-takes : (n : ℕ) → Takes (readExpr (suc n) ws) (bytes "null") Src.null
+  pub null-takes : (n : ℕ) → 0 < n → Takes (readExpr n ws) (bytes "null") Src.null
   unfolding atom Base Lexicon
-  null-takes n = atom-takes n (bytes "null") Src.null refl refl
+  null-takes n l = atom-takes n l (bytes "null") Src.null refl refl
 
-  pub var-takes : (n x : ℕ) → (eqb x this || isName (length ws) x) ≡ true → Takes (readExpr (suc n) ws) (printWord ws x) (Src.var x)
+  pub var-takes : (n x : ℕ) → 0 < n → (eqb x this || isName (length ws) x) ≡ true → Takes (readExpr n ws) (printWord ws x) (Src.var x)
   unfolding atom printWord known Base Lexicon
-  var-takes n x h = go (eqb x this) refl h
+  var-takes n x l h = go (eqb x this) refl h
     where
       Var : ℕ → Type 0
-      Var y = Takes (readExpr (suc n) ws) (printWord ws y) (Src.var y)
+      Var y = Takes (readExpr n ws) (printWord ws y) (Src.var y)
 
       go : (b : Bool) → eqb x this ≡ b → (b || isName (length ws) x) ≡ true → Var x
-      go true e k = transp Var (sym (eqb-true x this e)) (atom-takes n (bytes "this") (Src.var this) refl refl)
+      go true e k = transp Var (sym (eqb-true x this e)) (atom-takes n l (bytes "this") (Src.var this) refl refl)
       go false e k =
-          atom-takes n (printWord ws x) (Src.var x) (word-parts (printWord ws x) (name-word ws x held k) .1) (var-atom x k)
+          atom-takes n l (printWord ws x) (Src.var x) (word-parts (printWord ws x) (name-word ws x held k) .1) (var-atom x k)
 
   params-take : (xs : List ℕ) (k : ℕ) → length xs ≤ k → all (isName (length ws)) xs ≡ true → (j : Bytes)
       → readItems [] _∷_ (readWord ws) k (closing (map (printWord ws) xs) j) ≡ done (xs, j)

@@ -148,19 +148,11 @@ unfolding wideSrc
 src-some (Src.num n) = omega arith
 src-some Src.null = omega arith
 src-some (Src.var x) = omega arith
-src-some (Src.plus a b) = omega arith
-src-some (Src.percent a b) = omega arith
-src-some (Src.get e f) = omega arith
-src-some (Src.set e f d) = omega arith
-src-some (Src.call e m es) = omega arith
-src-some (Src.send e m es) = omega arith
-src-some (Src.ask e m es) = omega arith
+src-some (Src.op o es) = omega arith
 src-some (Src.letIn x e d) = omega arith
 src-some (Src.future x y e) = omega arith
 src-some (Src.fn x e) = omega arith
-src-some (Src.resolve e d) = omega arith
 src-some (Src.when e x d) = omega arith
-src-some (Src.seq a b) = omega arith
 src-some (Src.literal k fs ms) = omega arith
 
 line-some : (l : Line) → 1 ≤ length (wideLine l)

@@ -3,6 +3,7 @@ pub mod Writing
 pub mod Shown
 pub mod Codes
 -- the laws of its functions
+pub mod Ranges
 pub mod PutLaws
 pub mod HeadLaws
 pub mod ShowLaws
@@ -11,3 +12,4 @@ pub mod Spelling
 pub mod Says
 pub mod Words
 pub mod Forms
+pub mod Operators

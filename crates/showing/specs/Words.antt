@@ -8,18 +8,17 @@ use borrow.Author.Tests.{lt-ltb, le-ltb, ne-eqb}
 use lib.ListN.{length}
 use Rattle.atlite.specs.Base.{bytes}
 use Rattle.atlite.specs.Lexicon.{Bytes}
-use Rattle.atlite.specs.Printer.{form, printItems, printWord, printNumber, printKind}
-use Rattle.atlite.specs.Listing.{printSeries, printValue, printName}
+use Rattle.atlite.specs.Printer.{form, printItems, printWord, printNumber, printKind, printName}
+use Rattle.atlite.specs.Listing.{printSeries, printValue}
 use Rattle.atlite.specs.Term.{made, copied, Value, null, num, ref, Name, plain, twoWay, resolve, register, Kind}
 use Rattle.reading.specs.Items.{behind, form-closing}
 use Rattle.layout.specs.Pack.{node, places}
 use Rattle.layout.specs.PackLaws.{NameFits, Each}
-use Rattle.layout.specs.Terms.{seriesBit, encodeValue, tagged, asked, kindNumber, methodHeader}
+use Rattle.layout.specs.Terms.{variable, seriesBit, encodeValue, tagged, asked, kindNumber, methodHeader}
 use Rattle.layout.specs.TermLaws.{ValueFits, NameOk}
-use Rattle.layout.specs.TermReads.{asked-small}
-use Rattle.showing.specs.Shown.{payload, noName, wordIn, taggedIn, nameIn, openIn, placesIn, seriesIn, ownerIn, refIn, leafIn, shown}
+use Rattle.showing.specs.Shown.{payload, noName, wordIn, taggedIn, nameIn, openIn, placesIn, seriesIn, ownerIn, refIn, leafIn, shown, Shown·all}
 use Rattle.showing.specs.Spelling.{Spells, spelt, unspelt}
-use Rattle.showing.specs.Says.{Says, showing, says-object, says-isolate, says-actor, says-method}
+use Rattle.showing.specs.Says.{Says, showing, plainly, naming, says-method}
 
 -- ---- names and tags
 pub tag-small : (m : Name) → NameOk m → tagged m < 512
@@ -29,16 +28,20 @@ tag-small (twoWay m) h = omega arith
 tag-small resolve h = omega arith
 tag-small register h = omega arith
 
--- a word with a name and n arguments
-module _ (k : ℕ) (m : Name) (n : ℕ) (h : NameOk m) (l : n < 8) where
-  pub asked-kind : node k (asked m n) / payload ≡ k
-  asked-kind = omega (arith, asked-small m n h l)
+-- What is packed into a word comes out again: a name, a name with its tag and a number of arguments, two names,
+-- two numbers of parts.
+pub node-parts : (k x : ℕ) → NameFits x → (node k x / payload ≡ k) × (node k x % 128 ≡ x)
+node-parts k x g = omega arith
 
-  pub asked-tag : node k (asked m n) % 512 ≡ tagged m
-  asked-tag = omega (arith, tag-small m h)
+pub asked-parts : (k : ℕ) (m : Name) (n : ℕ) → NameOk m → n < 8
+    → (node k (asked m n) / payload ≡ k) × (node k (asked m n) % 512 ≡ tagged m) × (node k (asked m n) / 512 % 8 ≡ n)
+asked-parts k m n h l = let i = tag-small m h in omega arith
 
-  pub asked-number : node k (asked m n) / 512 % 8 ≡ n
-  asked-number = omega (arith, tag-small m h)
+future-parts : (x y : ℕ) → NameFits x → NameFits y → (node 12 (x + 128 * y) / payload ≡ 12) × (node 12 (x + 128 * y) % 128 ≡ x) × (node 12 (x + 128 * y) / 128 % 128 ≡ y)
+future-parts x y f g = omega arith
+
+literal-parts : (k a b : ℕ) → a < 8 → b < 8 → (node k (a + 8 * b) / payload ≡ k) × (node k (a + 8 * b) % 8 ≡ a) × (node k (a + 8 * b) / 8 % 8 ≡ b)
+literal-parts k a b f g = omega arith
 
 module _ (t : List ℕ) (ws : List Bytes) (sp : Spells t ws) where
   pub name-shown : (x : ℕ) → NameFits x → nameIn t x ≡ 32 ∷ printWord ws x
@@ -90,20 +93,55 @@ module _ (t : List ℕ) (ws : List Bytes) (sp : Spells t ws) where
   value-kind (ref a made n) h = let i = h .0 in let j = h .1 in omega arith
   value-kind (ref a copied n) h = let i = h .0 in let j = h .1 in omega arith
 
-  pub leaf : (n h : ℕ) (r : List ℕ) (s : Bytes) → 0 < n → h / payload < 7 → leafIn t h ≡ s → shown t n (h ∷ r) ≡ showing s r
+  leaf : (n h : ℕ) (r : List ℕ) (s : Bytes) → 0 < n → h / payload < 7 → leafIn t h ≡ s → shown t n (h ∷ r) ≡ showing s r
   unfolding shown
   leaf zero h r s d k e = absurd (omega arith)
   leaf (suc n) h r s d k e = rw (lt-ltb (h / payload) 7 k, e)
 
-  pub value-shown : (v : Value) (n : ℕ) (r : List ℕ) → ValueFits v → shown t (suc n) (encodeValue v ∷ r) ≡ showing (printValue v) r
-  value-shown v n r h = leaf (suc n) (encodeValue v) r (printValue v) (omega arith) (value-kind v h) (leaf-shown v h)
+  pub value-shown : (v : Value) (n : ℕ) (r : List ℕ) → ValueFits v → 0 < n → shown t n (encodeValue v ∷ r) ≡ showing (printValue v) r
+  value-shown v n r h d = leaf n (encodeValue v) r (printValue v) d (value-kind v h) (leaf-shown v h)
+
+  pub variable-shown : (x n : ℕ) (r : List ℕ) → NameFits x → 0 < n → shown t n (variable x ∷ r) ≡ showing (printWord ws x) r
+  unfolding leafIn
+  variable-shown x n r h d = let (e, f) = node-parts 6 x h in leaf n (variable x) r (printWord ws x) d (omega arith) (rw (e, f) (spelt t ws sp x))
+
+  -- ---- forms with names of their own
+  module _ (x : ℕ) (g : NameFits x) where
+    opening : (key : Bytes) → (40 ∷ key) ++ (nameIn t x ++ []) ≡ (40 ∷ key) ++ behind (printWord ws x ∷ []) []
+    opening key = ap {B = Bytes} (λ u. (40 ∷ key) ++ (u ++ [])) (name-shown x g)
+
+    pub let-says : Says t (node 11 x) (bytes "let") (printWord ws x ∷ []) [] 2
+    unfolding Shown·all bytes
+    let-says = let (e, f) = node-parts 11 x g in plainly (rw e) (rw (e, f) (opening (bytes "let"))) (rw e) (rw e)
+
+    pub fn-says : Says t (node 65 x) (bytes "fn") (printWord ws x ∷ []) [] 1
+    unfolding Shown·all bytes
+    fn-says = let (e, f) = node-parts 65 x g in plainly (rw e) (rw (e, f) (opening (bytes "fn"))) (rw e) (rw e)
+
+    pub field-says : Says t (node 128 x) (bytes "field") (printWord ws x ∷ []) [] 1
+    unfolding Shown·all bytes
+    field-says = let (e, f) = node-parts 128 x g in plainly (rw e) (rw (e, f) (opening (bytes "field"))) (rw e) (rw e)
+
+    pub def-says : Says t (node 130 x) (bytes "def") (printWord ws x ∷ []) [] 1
+    unfolding Shown·all bytes
+    def-says = let (e, f) = node-parts 130 x g in plainly (rw e) (rw (e, f) (opening (bytes "def"))) (rw e) (rw e)
+
+    pub when-says : Says t (node 67 x) (bytes "when") [] (printWord ws x ∷ []) 2
+    unfolding Shown·all bytes
+    when-says = let (e, f) = node-parts 67 x g in naming (rw e) x (name-shown x g) (rw e) (rw (e, f)) (rw e) (omega arith)
+
+    pub future-says : (y : ℕ) → NameFits y → Says t (node 12 (x + 128 * y)) (bytes "future") (printWord ws x ∷ printWord ws y ∷ []) [] 1
+    unfolding Shown·all bytes
+    future-says y i =
+        let (e, a, b) = future-parts x y g i in
+        plainly (rw e) (rw (e, a, b) (ap₂ {C = Bytes} (λ u v. (40 ∷ bytes "future") ++ (u ++ (v ++ []))) (name-shown x g) (name-shown y i))) (rw e) (rw e)
 
   -- ---- literals and methods
-  pub literal-says : (k : Kind) (a b : ℕ) → a < 8 → b < 8 → Says t (node (kindNumber k) (a + 8 * b)) (printKind k) [] noName (a + b)
-  unfolding kindNumber printKind
-  literal-says Kind.object a b f g = says-object t _ a b (omega arith) (omega arith) (omega arith)
-  literal-says Kind.isolate a b f g = says-isolate t _ a b (omega arith) (omega arith) (omega arith)
-  literal-says Kind.actor a b f g = says-actor t _ a b (omega arith) (omega arith) (omega arith)
+  pub literal-says : (k : Kind) (a b : ℕ) → a < 8 → b < 8 → Says t (node (kindNumber k) (a + 8 * b)) (printKind k) [] [] (a + b)
+  unfolding kindNumber printKind Shown·all bytes
+  literal-says Kind.object a b f g = let (e, c, d) = literal-parts 15 a b f g in plainly (rw e) (rw e) (rw e) (rw (e, c, d))
+  literal-says Kind.isolate a b f g = let (e, c, d) = literal-parts 16 a b f g in plainly (rw e) (rw e) (rw e) (rw (e, c, d))
+  literal-says Kind.actor a b f g = let (e, c, d) = literal-parts 17 a b f g in plainly (rw e) (rw e) (rw e) (rw (e, c, d))
 
   params-text : (x : ℕ) (v : Bytes) (items : List Bytes) (y z : Bytes) → wordIn t x ≡ v → y ++ (z ++ (41 ∷ [])) ≡ behind items (41 ∷ [])
       → openIn t x ++ (y ++ (z ++ (41 ∷ []))) ≡ 32 ∷ form (v ∷ items)
@@ -114,14 +152,14 @@ module _ (t : List ℕ) (ws : List Bytes) (sp : Spells t ws) where
   -- the word before its places: name m, count n, places p
   module _ (m n p : ℕ) (f : m < 127) (g : n ≤ 3) where
     method-says : (x y z : ℕ) (u : Bytes) → p < 2097152 → p % 128 ≡ x → p / 128 % 128 ≡ y → p / 16384 % 128 ≡ z → placesIn t x y z ≡ 32 ∷ u
-        → Says t (m + 128 * (n + 4 * (p + 2097152 * 3))) (bytes "method") (printWord ws m ∷ u ∷ []) noName 1
+        → Says t (m + 128 * (n + 4 * (p + 2097152 * 3))) (bytes "method") (printWord ws m ∷ u ∷ []) [] 1
     method-says x y z u l a b c e =
         let h = m + 128 * (n + 4 * (p + 2097152 * 3)) in
         let q : h / 512 ≡ p + 6291456 = omega arith in
         says-method t h m x y z (omega arith) (omega arith) (omega arith) (omega arith) (omega arith) (printWord ws m) u (name-shown m f) e
 
   pub header-says : (m : ℕ) (xs : List ℕ) → NameFits m → Each NameFits xs → length xs ≤ 3
-      → Says t (methodHeader m xs) (bytes "method") (printWord ws m ∷ form (map (printWord ws) xs) ∷ []) noName 1
+      → Says t (methodHeader m xs) (bytes "method") (printWord ws m ∷ form (map (printWord ws) xs) ∷ []) [] 1
   unfolding methodHeader places placesIn openIn nameIn form printItems
   header-says m [] f g l =
       method-says m 0 (127 + 128 * (127 + 128 * 127)) f (omega arith) 127 127 127 (form []) (omega arith) (omega arith) (omega arith) (omega arith)

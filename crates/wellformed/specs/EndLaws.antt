@@ -68,17 +68,6 @@ module _ {A B C : Type 0} (f : A → B → C) (u : C → Bool) where
   ends-pair-none none q h = refl
   ends-pair-none (got a i) q h = ends-on-none (f a) u (q i) (λ b j g. h a i b j refl g)
 
--- two ways to put the same parts together
-module _ {A B C D : Type 0} (f : A → B → C) (g : A → B → D) (u : C → Bool) (v : D → Bool) where
-  pub pair-same : (x : Got A) (q : ℕ → Got B) → ((a : A) (i : ℕ) (b : B) (j : ℕ) → x ≡ got a i → q i ≡ got b j → v (g a b) ≡ u (f a b)) → endOf u (pair f x q) ≡ endOf v (pair g x q)
-  unfolding endOf
-  pair-same none q h = refl
-  pair-same (got a i) q h = go (q i) refl
-    where
-      go : (y : Got B) → q i ≡ y → endOf u (onGot (f a) y) ≡ endOf v (onGot (g a) y)
-      go none e = refl
-      go (got b j) e = rw (h a i b j refl e)
-
 -- ---- a header, the part that it leads, and the rest
 module _ {H A B : Type 0} (f : H → A → B → B) (t : H → Bool) (u : B → Bool) (x : Got A) (q : ℕ → Got B) where
   pub headed-none : (o : Option H) → within t o ≡ false → ((h : H) (a : A) (b : B) → t h ≡ false → u (f h a b) ≡ false) → 4096 ≡ endOf u (behind o (λ h. pair (f h) x q))

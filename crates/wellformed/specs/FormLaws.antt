@@ -10,12 +10,12 @@ use borrow.Author.Tests.{lt-ltb, lt-leb, ltb-false, ne-eqb}
 use lib.Dec.{eqb, ltb}
 use lib.ListN.{length, List·getD-eq-default}
 use Rattle.atlite.specs.Facts.{and₂}
-use Rattle.atlite.specs.Term.{Value, Name, plain, twoWay, resolve, register, Kind, Term, var, plus, percent, get, set, call, send, letIn, future, Terms, countTerms}
-use Rattle.atlite.specs.Valid.{isName, isVariable, sendable, callable}
-use Rattle.atlite.specs.ValidTest.{wellFormed, wellFormedAll}
+use Rattle.atlite.specs.Term.{Value, Name, plain, twoWay, resolve, register, Kind, Op, plus, percent, get, set, call, send, var, letIn, future}
+use Rattle.atlite.specs.Valid.{isName, isVariable, sendable, callable, operable}
+use Rattle.atlite.specs.ValidTest.{wellFormed}
 use Rattle.layout.specs.PackLaws.{pack-low}
 use Rattle.layout.specs.Terms.{kindNumber}
-use Rattle.layout.specs.Parse.{valueIn, valueAt, nameOf, noHead, unary, binary, only, valueHead, askHead, askIn, heads, headIn, headAt, formed}
+use Rattle.layout.specs.Parse.{valueIn, valueAt, nameOf, noHead, unary, binary, many, only, valueHead, askHead, askIn, heads, headIn, headAt, formed}
 use Rattle.layout.specs.ParseLaws.{parse}
 use Rattle.checks.specs.Bound.{Swapped, Kept}
 use Rattle.wellformed.specs.Words.{within, sendIn, callIn}
@@ -24,7 +24,7 @@ use Rattle.wellformed.specs.Ends.{endOf, Scope, Sees, bound, Bound, Argu
 use Rattle.wellformed.specs.ScopeLaws.{scope-bind, two-bound}
 use Rattle.wellformed.specs.NameLaws.{variable-below}
 use Rattle.wellformed.specs.EndLaws.{ends-on, ends-pair, term-nowhere}
-use Rattle.wellformed.specs.ShapeLaws.{formEnd, only-none, only-some, leaf-ends, unary-some, unary-none, binary-some, binary-none, asks-some, asks-none, by-kind}
+use Rattle.wellformed.specs.ShapeLaws.{formEnd, only-none, only-some, leaf-ends, unary-none, binary-none, many-some, many-none, by-kind}
 
 -- ---- names with too many arguments
 module _ (c : ℕ) where
@@ -96,20 +96,19 @@ module _ (c h r : ℕ) where
   q = h % 16777216
 
   -- two operands and no payload
-  bare-two : (k : ℕ) (f : Term → Term → Term) → h / 16777216 ≡ k → Counted (eqb q 0) 2 r → headIn k q ≡ only (eqb q 0) (binary f)
-      → ((p : Value → Bool) (xs : List ℕ) (e d : Term) → wellFormed c p xs (f e d) ≡ wellFormed c p xs e && wellFormed c p xs d) → Operands c h r
+  bare-two : (k : ℕ) (f : Op Name) → h / 16777216 ≡ k → Counted (eqb q 0) 2 r → headIn k q ≡ only (eqb q 0) (many f 2) → operable c f 2 ≡ true → Operands c h r
   bare-two k f e t i v =
       operands-by c h r 2 (eqb q 0) t k e (omega arith) (omega arith)
-      (λ z p xs w at. rw i (only-none c p xs w at (eqb q 0) (binary f) (λ u. absurd (true≢false (sym u ∙ z)))))
-      (λ z p xs w at. rw i (only-some c p xs w at (eqb q 0) _ (binary f) z (binary-some c p xs w at f (v p xs))))
+      (λ z p xs w at. rw i (only-none c p xs w at (eqb q 0) (many f 2) (λ u. absurd (true≢false (sym u ∙ z)))))
+      (λ z p xs w at. rw i (only-some c p xs w at (eqb q 0) _ (many f 2) z (many-some c p xs w at f 2 v)))
 
   pub operands-plus : h / 16777216 ≡ 7 → Counted (eqb q 0) 2 r → Operands c h r
-  unfolding headIn heads wellFormed
-  operands-plus e t = bare-two 7 plus e t refl (λ p xs e d. refl)
+  unfolding headIn heads
+  operands-plus e t = bare-two 7 plus e t refl refl
 
   pub operands-percent : h / 16777216 ≡ 8 → Counted (eqb q 0) 2 r → Operands c h r
-  unfolding headIn heads wellFormed
-  operands-percent e t = bare-two 8 percent e t refl (λ p xs e d. refl)
+  unfolding headIn heads
+  operands-percent e t = bare-two 8 percent e t refl refl
 
   module _ (m : c ≤ 64) (o : Bool) (e : o ≡ isName c q) where
     -- a name is one of those that have a head
@@ -120,32 +119,31 @@ module _ (c h r : ℕ) where
         go true i = refl
         go false i = absurd (true≢false (sym z ∙ e ∙ name-past c m q (ltb-false q 127 i)))
 
+    field-by : (f : Op Name) (k n : ℕ) → h / 16777216 ≡ k → 0 < n → n ≤ 8388608 → Counted o n r → headIn k q ≡ only (ltb q 127) (many f n) → operable c f n ≡ isName c q && true → Operands c h r
+    field-by f k n j l m t i v =
+        operands-by c h r n o t k j l m
+        (λ z p xs w at. rw i (only-none c p xs w at (ltb q 127) (many f n) (λ u. many-none c p xs w at f n (v ∙ rw (sym e ∙ z)))))
+        (λ z p xs w at. rw i (only-some c p xs w at (ltb q 127) _ (many f n) (named z) (many-some c p xs w at f n (v ∙ rw (sym e ∙ z)))))
+
     pub operands-get : h / 16777216 ≡ 9 → Counted o 1 r → Operands c h r
-    unfolding headIn heads wellFormed
-    operands-get k t =
-        operands-by c h r 1 o t 9 k (omega arith) (omega arith)
-        (λ z p xs w at. only-none c p xs w at (ltb q 127) (unary (λ d. get d q)) (λ u. unary-none c p xs w at (λ d. get d q) (λ d. rw (sym e ∙ z))))
-        (λ z p xs w at. only-some c p xs w at (ltb q 127) _ (unary (λ d. get d q)) (named z) (unary-some c p xs w at (λ d. get d q) (λ d. rw (sym e ∙ z))))
+    unfolding headIn heads
+    operands-get k t = field-by (get q) 9 1 k (omega arith) (omega arith) t refl refl
 
     pub operands-set : h / 16777216 ≡ 10 → Counted o 2 r → Operands c h r
-    unfolding headIn heads wellFormed
-    operands-set k t =
-        operands-by c h r 2 o t 10 k (omega arith) (omega arith)
-        (λ z p xs w at. only-none c p xs w at (ltb q 127) (binary (λ d g. set d q g)) (λ u. binary-none c p xs w at (λ d g. set d q g) (λ d g. rw (sym e ∙ z))))
-        (λ z p xs w at. only-some c p xs w at (ltb q 127) _ (binary (λ d g. set d q g)) (named z) (binary-some c p xs w at (λ d g. set d q g) (λ d g. rw (sym e ∙ z))))
+    unfolding headIn heads
+    operands-set k t = field-by (set q) 10 2 k (omega arith) (omega arith) t refl refl
 
   -- calls and sends, by what is asked of a name with so many arguments
-  module _ (f : Term → Name → Terms → Term) (a : Name → ℕ → Bool) (few : (m : Name) (n : ℕ) → 8 ≤ n → a m n ≡ false)
-      (well : (p : Value → Bool) (xs : List ℕ) (e : Term) (m : Name) (es : Terms) → wellFormed c p xs (f e m es) ≡ a m (countTerms es) && wellFormed c p xs e && wellFormedAll c p xs es) where
+  module _ (f : Name → Op Name) (a : Name → ℕ → Bool) (few : (m : Name) (n : ℕ) → 8 ≤ n → a m n ≡ false) (well : (m : Name) (n : ℕ) → operable c (f m) (suc n) ≡ a m n) where
     asked-none : (p : Value → Bool) (xs w : List ℕ) (at n : ℕ) (x : Option Name) → within (λ m. a m n) x ≡ false → 4096 ≡ formEnd c p xs w at (askHead f n x)
     unfolding within formed endOf
     asked-none p xs w at n Option.none e = refl
-    asked-none p xs w at n (some m) e = asks-none c p xs w at (λ d es. f d m es) n (λ d es g. well p xs d m es ∙ rw (g, e))
+    asked-none p xs w at n (some m) e = many-none c p xs w at (f m) (suc n) (well m n ∙ e)
 
     asked-some : (p : Value → Bool) (xs w : List ℕ) (at n : ℕ) (x : Option Name) → within (λ m. a m n) x ≡ true → termsEnd c p xs w (suc n) at ≡ formEnd c p xs w at (askHead f n x)
     unfolding within
     asked-some p xs w at n Option.none e = absurd (true≢false (sym e))
-    asked-some p xs w at n (some m) e = asks-some c p xs w at (λ d es. f d m es) n (λ d es g. well p xs d m es ∙ rw (g, e))
+    asked-some p xs w at n (some m) e = many-some c p xs w at (f m) (suc n) (well m n ∙ e)
 
     asked-few : (n : ℕ) (x : Option Name) → within (λ m. a m n) x ≡ true → ltb n 8 ≡ true
     unfolding within
@@ -166,12 +164,12 @@ module _ (c h r : ℕ) where
 
   module _ (o : Bool) (n : ℕ) (a : Arguments q n) (t : Counted o n r) where
     pub operands-call : h / 16777216 ≡ 13 → o ≡ callIn c q → Operands c h r
-    unfolding headIn heads wellFormed callIn
-    operands-call k e = operands-asked call (callable c) (few-called c) (λ p xs d m es. refl) o 13 n k refl e a t
+    unfolding headIn heads callIn
+    operands-call k e = operands-asked call (callable c) (few-called c) (λ m n. refl) o 13 n k refl e a t
 
     pub operands-send : h / 16777216 ≡ 14 → o ≡ sendIn c q → Operands c h r
-    unfolding headIn heads wellFormed sendIn
-    operands-send k e = operands-asked send (sendable c) (few-sent c) (λ p xs d m es. refl) o 14 n k refl e a t
+    unfolding headIn heads sendIn
+    operands-send k e = operands-asked send (sendable c) (few-sent c) (λ m n. refl) o 14 n k refl e a t
 
 -- a word of no other kind
 past : (x k : ℕ) → k ≤ x / 16777216 → (x / 16777216 ≡ k → ⊥) → suc k ≤ x / 16777216

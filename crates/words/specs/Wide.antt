@@ -7,10 +7,11 @@
 use Prim.Native.Nat.{ℕ, _+_, _*_}
 use mathlib.Core.List.{List, [], _∷_, _++_}
 use lib.ListN.{length}
-use Rattle.atlite.specs.Script.{Src, num, null, var, plus, percent, get, set, call, send, ask, letIn, future, fn, resolve, when, seq, literal, Srcs, nil, cons, SrcFields, noField, field, SrcMethods, noMethod, method, Line, expression, define}
-use Rattle.atlite.specs.Table.{countSrcs, countFields, countMethods}
+use Rattle.atlite.specs.Script.{SrcOp, srcShape, Src, num, null, var, op, letIn, future, fn, when, literal, Srcs, nil, cons, SrcFields, noField, field, SrcMethods, noMethod, method, Line, expression, define, countSrcs}
+use Rattle.atlite.specs.Table.{countFields, countMethods}
 use Rattle.layout.specs.Pack.{flat}
-use Rattle.layout.specs.Terms.{kindNumber}
+use Rattle.layout.specs.Terms.{labelNumber, kindNumber}
+use Rattle.layout.specs.Tables.{srcKind}
 
 abbrev pub wide : ℕ → ℕ → ℕ
 wide k p = k + 256 * p
@@ -28,25 +29,21 @@ wideParams (x ∷ xs) = pair x (wideParams xs)
 unfoldable pub wideMethod : ℕ → List ℕ → ℕ
 wideMethod m xs = wide 192 (pair m (length xs + 4 * wideParams xs))
 
+-- what an operator with n operands names
+unfoldable pub widePayload : SrcOp → ℕ → ℕ
+widePayload o n = labelNumber pair (srcShape o) n
+
 unfoldable mutual
   pub wideSrc : Src → List ℕ
   wideSrc null = wide 1 0 ∷ []
   wideSrc (num n) = wide 2 n ∷ []
   wideSrc (var x) = wide 6 x ∷ []
-  wideSrc (plus a b) = wide 7 0 ∷ (wideSrc a ++ wideSrc b)
-  wideSrc (percent a b) = wide 8 0 ∷ (wideSrc a ++ wideSrc b)
-  wideSrc (get e f) = wide 9 f ∷ wideSrc e
-  wideSrc (set e f d) = wide 10 f ∷ (wideSrc e ++ wideSrc d)
+  wideSrc (op o es) = wide (srcKind o) (widePayload o (countSrcs es)) ∷ wideSrcs es
   wideSrc (letIn x e d) = wide 11 x ∷ (wideSrc e ++ wideSrc d)
   wideSrc (future x y e) = wide 12 (pair x y) ∷ wideSrc e
-  wideSrc (call e m es) = wide 13 (pair m (countSrcs es)) ∷ (wideSrc e ++ wideSrcs es)
-  wideSrc (send e m es) = wide 14 (pair m (countSrcs es)) ∷ (wideSrc e ++ wideSrcs es)
   wideSrc (literal k fs ms) = wide (kindNumber k) (countFields fs + 8 * countMethods ms) ∷ (wideFields fs ++ wideMethods ms)
-  wideSrc (ask e m es) = wide 64 (pair m (countSrcs es)) ∷ (wideSrc e ++ wideSrcs es)
   wideSrc (fn x e) = wide 65 x ∷ wideSrc e
-  wideSrc (resolve e d) = wide 66 0 ∷ (wideSrc e ++ wideSrc d)
   wideSrc (when e x d) = wide 67 x ∷ (wideSrc e ++ wideSrc d)
-  wideSrc (seq a b) = wide 68 0 ∷ (wideSrc a ++ wideSrc b)
 
   pub wideSrcs : Srcs → List ℕ
   wideSrcs nil = []
@@ -68,5 +65,5 @@ unfoldable pub wideLines : List Line → List ℕ
 wideLines ls = flat wideLine ls
 
 unfoldable pub Wide : Unit {0}
-unfolding wideParams wideMethod wideSrc wideLine wideLines
+unfolding wideParams wideMethod widePayload wideSrc wideLine wideLines
 Wide = tt
