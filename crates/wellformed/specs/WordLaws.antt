@@ -1,6 +1,6 @@
 -- The laws of the functions that test one word: one for each way to return. Assumes nothing.
 use Prim.Native.Nat.{ℕ, zero, suc, _+_, _*_, _/_, _%_, _≤_, _<_}
-use mathlib.Core.Path.{_≡_, refl, sym, ap, _∙_}
+use mathlib.Core.Path.{_≡_, refl, sym, ap, ap₂, _∙_}
 use mathlib.Core.Bool.{Bool, true, false, _&&_, cond, and-assoc, true≢false}
 use mathlib.Core.List.{List}
 use mathlib.Core.Option.{Option, none, some}
@@ -10,9 +10,14 @@ use borrow.Author.Tests.{ltb-false, lt-ltb, le-ltb, le-leb, lt-leb, eq-eqb, ne-e
 use lib.Dec.{eqb, ltb, leb}
 use lib.ListN.{getD}
 use Rattle.atlite.specs.Term.{Series, made, copied, null, num, Name, plain, twoWay, resolve, register}
+use Rattle.atlite.specs.declared.MadeNo.{MadeNo}
+use Rattle.atlite.specs.declared.CopyNo.{CopyNo}
 use Rattle.atlite.specs.Valid.{isName, isVariable, sendable, callable, unreferring}
 use Rattle.layout.specs.Parse.{valueIn, valueAt, nameOf}
 use Rattle.layout.specs.TermReading.{seriesIn, refIn}
+use Rattle.heap.specs.declared.EntityNo.{EntityNo}
+use Rattle.heap.specs.declared.EntityNo.the-variants.{Made, Copied}
+use Rattle.heap.specs.Numbered.{seriesOf, numberOf, EntityIn}
 use Rattle.wellformed.specs.Kinds.{kindAt, kindOf, visibleKind, allowed}
 use Rattle.wellformed.specs.Words.{within, holds, sendIn, callIn, lone}
 
@@ -52,13 +57,6 @@ pub ruleset name-laws = (needs, name-low, name-yes, name-high, variable-this, va
 
 -- ---- references
 module _ (K : List ℕ) (q : ℕ) where
-  copied-series : (q / 65536 % 2 ≡ 0 → ⊥) → seriesIn (q / 65536 % 2) ≡ copied
-  copied-series z = go (q / 65536 % 2) z
-    where
-      go : (b : ℕ) → (b ≡ 0 → ⊥) → seriesIn b ≡ copied
-      go zero z = absurd (z refl)
-      go (suc b) z = refl
-
   pub kind-far : 4 ≤ q / 65536 / 2 → 0 ≡ kindOf K (refIn q)
   unfolding kindOf kindAt
   kind-far h = go (seriesIn (q / 65536 % 2))
@@ -67,22 +65,37 @@ module _ (K : List ℕ) (q : ℕ) where
       go made = rw (le-ltb (q / 65536 / 2) 4 h)
       go copied = rw (le-ltb (q / 65536 / 2) 4 h)
 
-  module _ (b : q / 65536 / 2 < 4) where
-    pub kind-made : q / 65536 % 2 ≡ 0 → q % 65536 < 32 → getD K (48 * (q / 65536 / 2) + q % 65536) 0 ≡ kindOf K (refIn q)
-    unfolding kindOf kindAt
-    kind-made e l = rw (e, lt-ltb (q / 65536 / 2) 4 b, lt-ltb (q % 65536) 32 l)
+  -- by the entity that it names
+  module _ (b : q / 65536 / 2 < 4) (e : EntityNo) (E : EntityIn q e) where
+    named : (s : Series) (n : ℕ) → seriesOf e ≡ s → numberOf e ≡ n → kindAt K (q / 65536 / 2) s n ≡ kindOf K (refIn q)
+    unfolding kindOf
+    named s n es en = ap₂ (kindAt K (q / 65536 / 2)) (sym es ∙ E .series) (sym en ∙ E .number)
 
-    pub kind-unmade : q / 65536 % 2 ≡ 0 → 32 ≤ q % 65536 → 0 ≡ kindOf K (refIn q)
-    unfolding kindOf kindAt
-    kind-unmade e l = rw (e, lt-ltb (q / 65536 / 2) 4 b, le-ltb (q % 65536) 32 l)
+    module _ (n : MadeNo) (h : e ≡ Made n) where
+      its-made : kindAt K (q / 65536 / 2) made (n .0) ≡ kindOf K (refIn q)
+      unfolding seriesOf numberOf
+      its-made = named made (n .0) (ap seriesOf h) (ap numberOf h)
 
-    pub kind-copied : (q / 65536 % 2 ≡ 0 → ⊥) → q % 65536 < 16 → getD K (48 * (q / 65536 / 2) + (32 + q % 65536)) 0 ≡ kindOf K (refIn q)
-    unfolding kindOf kindAt
-    kind-copied z l = rw (copied-series z, lt-ltb (q / 65536 / 2) 4 b, lt-ltb (q % 65536) 16 l)
+      pub kind-made : n .0 < 32 → getD K (48 * (q / 65536 / 2) + n .0) 0 ≡ kindOf K (refIn q)
+      unfolding kindAt
+      kind-made l = rw (lt-ltb (q / 65536 / 2) 4 b, lt-ltb (n .0) 32 l) at its-made
 
-    pub kind-uncopied : (q / 65536 % 2 ≡ 0 → ⊥) → 16 ≤ q % 65536 → 0 ≡ kindOf K (refIn q)
-    unfolding kindOf kindAt
-    kind-uncopied z l = rw (copied-series z, lt-ltb (q / 65536 / 2) 4 b, le-ltb (q % 65536) 16 l)
+      pub kind-unmade : 32 ≤ n .0 → 0 ≡ kindOf K (refIn q)
+      unfolding kindAt
+      kind-unmade l = rw (lt-ltb (q / 65536 / 2) 4 b, le-ltb (n .0) 32 l) at its-made
+
+    module _ (n : CopyNo) (h : e ≡ Copied n) where
+      its-copied : kindAt K (q / 65536 / 2) copied (n .0) ≡ kindOf K (refIn q)
+      unfolding seriesOf numberOf
+      its-copied = named copied (n .0) (ap seriesOf h) (ap numberOf h)
+
+      pub kind-copied : n .0 < 16 → getD K (48 * (q / 65536 / 2) + (32 + n .0)) 0 ≡ kindOf K (refIn q)
+      unfolding kindAt
+      kind-copied l = rw (lt-ltb (q / 65536 / 2) 4 b, lt-ltb (n .0) 16 l) at its-copied
+
+      pub kind-uncopied : 16 ≤ n .0 → 0 ≡ kindOf K (refIn q)
+      unfolding kindAt
+      kind-uncopied l = rw (lt-ltb (q / 65536 / 2) 4 b, le-ltb (n .0) 16 l) at its-copied
 
   module _ (a k : ℕ) (e : k ≡ kindOf K (refIn q)) where
     seen-kind : allowed K a (refIn q) ≡ visibleKind a (q / 65536 / 2) k

@@ -8,6 +8,7 @@ ghost use Rattle.layout.specs.TermReading.{refIn};
 ghost use Rattle.wellformed.specs.Kinds.{kindOf, allowed};
 ghost use Rattle.wellformed.specs.Words.{callIn, lone as isLone};
 use crate::PAYLOAD;
+use heap::EntityNo;
 
 // The name of a field or a method.
 pub fn is_name(x: u32, words: u32) -> bool
@@ -42,20 +43,23 @@ pub fn kind_of(q: u32, kinds: &[u8; 192]) -> u8
     ensures { λ r. ⌜ r ≡ kindOf (now (kinds .entry)) (refIn q) ⌝ }
 {
     let b = q / 65536 / 2;
-    let n = q % 65536;
     if 4 <= b {
         return 0;
     }
-    if q / 65536 % 2 == 0 {
-        if n < 32 {
-            return kinds[(48 * b + n) as usize];
+    match heap::entity_no(q) {
+        EntityNo::Made(n) => {
+            if n.0 < 32 {
+                return kinds[(48 * b + n.0 as u32) as usize];
+            }
+            0
         }
-        return 0;
+        EntityNo::Copied(n) => {
+            if n.0 < 16 {
+                return kinds[(48 * b + (32 + n.0 as u32)) as usize];
+            }
+            0
+        }
     }
-    if n < 16 {
-        return kinds[(48 * b + (32 + n)) as usize];
-    }
-    0
 }
 
 // Whether the actor may hold the reference of payload `q`: an isolate only if it is its own.
