@@ -1,4 +1,4 @@
-// Whether words are the dictionary of a state: three words an entry, each entry a word of a script's own, and none of them twice.
+// Whether words are the dictionary of a state or of a table: three words an entry, each entry a word of a script's own, and none of them twice.
 // An entry is put into bytes, so that the reader's own test of words serves here too.
 ghost use mathlib.Core.Path.{_≡_};
 ghost use Prim.Native.Nat.{_+_, _*_, _≤_};

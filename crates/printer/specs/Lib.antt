@@ -1,5 +1,6 @@
 pub mod Shown
 pub mod Codes
+pub mod Names
 pub mod Printed
 pub mod ShowLaws
 pub mod Nesting

@@ -1,5 +1,6 @@
--- `printer::print_words` meets its contract, by the laws of its three ways to return. Assumes nothing.
+-- `printer::print_words` meets its contract, by the laws of its four ways to return. Assumes nothing.
 use borrow.Author.Needs.{needs}
+use lib.Seq.{length-take-le}
 use Rattle.printer.specs.PrintLaws.{laws}
 use Rattle.printer.proofs.print_words.Statement.{statement}
 use Rattle.printer.proofs.print_words.Tie as tie
@@ -9,6 +10,8 @@ print-words-spec =
     tie.close
     (tie.spec
     (λ c κs. search needs)  -- size-requires
+    (λ c. search (needs, length-take-le))  -- slice-aggregate-names-hold
+    (λ c κs. search (needs, length-take-le))  -- names-hold-requires
     (λ c. search needs)  -- sub-t
     (λ c. search needs)  -- part-t-start
     (λ c. search needs)  -- part-t-end
@@ -18,4 +21,5 @@ print-words-spec =
     (λ c κs. search needs)  -- show-lines-requires
     (λ c. search laws)  -- returns-2
     (λ c. search laws)  -- returns-3
+    (λ c. search laws)  -- returns-4
     )
