@@ -9,6 +9,7 @@ ghost use mathlib.Core.Path.{_≡_};
 ghost use lib.ListN.{length};
 use atlite::ActorNo;
 use atlite::Moved;
+use input::Input;
 
 // The bytes of a record.
 const RECORD: usize = 19;
@@ -264,26 +265,15 @@ fn report(name: &[u8], t: Tally) {
     io::write_all(1, name);
 }
 
-// The moves of the file `name`, added to those before. A file that is not there is one move that does not agree.
-fn group(name: &[u8], before: Tally) -> Tally
-    requires { ⌜ (before .all ≤ 16777216) × (before .agreed ≤ before .all) ⌝ }
+// The moves of the records, added to those before.
+fn make_moves(name: &[u8], records: &[u8], before: Tally) -> Tally
+    requires { ⌜ (length (now records) ≤ 65536) × (before .all ≤ 16777216) × (before .agreed ≤ before .all) ⌝ }
     ensures { λ r. ⌜ (r .all ≤ before .all + 65536) × (r .agreed ≤ r .all) ⌝ }
 {
-    let fd = os::open_read(name);
-    if fd < 0 {
-        os::fail(name);
-        return Tally {
-            all: before.all + 1,
-            agreed: before.agreed,
-        };
-    }
-    let mut data = io::large_buffer();
-    let n = io::read_full(fd, &mut data);
-    libc::close(fd);
     let mut start = [0u32; 16384];
     let mut expected = [0u32; 16384];
     let t = go_through(
-        &data[..n],
+        records,
         &mut start,
         &mut expected,
         Tally { all: 0, agreed: 0 },
@@ -294,6 +284,25 @@ fn group(name: &[u8], before: Tally) -> Tally
     Tally {
         all: before.all + t.all,
         agreed: before.agreed + t.agreed,
+    }
+}
+
+// The moves of the file `name`, added to those before. A file that is not read is one move that does not agree.
+fn group(name: &[u8], before: Tally) -> Tally
+    requires { ⌜ (before .all ≤ 16777216) × (before .agreed ≤ before .all) ⌝ }
+    ensures { λ r. ⌜ (r .all ≤ before .all + 65536) × (r .agreed ≤ r .all) ⌝ }
+{
+    let mut data = io::large_buffer();
+    let r = input::read_file(name, &mut data);
+    match r {
+        Input::Bytes(n) => make_moves(name, &data[..n], before),
+        Input::Unread => {
+            input::tell_unread();
+            Tally {
+                all: before.all + 1,
+                agreed: before.agreed,
+            }
+        }
     }
 }
 

@@ -1,8 +1,9 @@
-// Reads a script from standard input and prints it again from its table, or says which cause refuses it.
+// Reads a script from standard input and prints it again from its table, or says which cause refuses it, or that it was not read.
 ghost use Prim.Native.Nat.{_≤_};
 ghost use lib.ListN.{length};
 use atlite::Printed;
 use atlite::Tabled;
+use input::Input;
 
 // The line of a refusal. No cause of these two calls has two digits.
 fn refuse(n: u8) {
@@ -35,14 +36,22 @@ fn print_table(table: &[u32]) {
     }
 }
 
-// One byte more than a script may have is read, so that a longer one is seen to be too long.
-fn main() {
-    let mut buffer = [0u8; 4097];
-    let n = io::read_full(0, &mut buffer);
+// Prints a script again, or the line of the cause that refuses it.
+fn reprint(text: &[u8]) {
     let mut table = [0u32; 1280];
-    let t = script::read(&buffer[..n], &mut table);
+    let t = script::read(text, &mut table);
     match t {
         Tabled::Done => print_table(&table),
         Tabled::Refused(n) => refuse(n),
+    }
+}
+
+// One byte more than a script may have is read, so that a longer one is seen to be too long.
+fn main() {
+    let mut text = [0u8; 4097];
+    let r = input::read_all(0, &mut text);
+    match r {
+        Input::Bytes(n) => reprint(&text[..n]),
+        Input::Unread => input::tell_unread(),
     }
 }

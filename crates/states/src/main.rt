@@ -6,6 +6,7 @@ ghost use Prim.Native.Nat.{_+_, _≤_};
 ghost use mathlib.Core.Path.{_≡_};
 ghost use lib.ListN.{length};
 use atlite::Listed;
+use input::Input;
 
 // The bytes of a record.
 const RECORD: usize = 19;
@@ -99,14 +100,11 @@ fn go_through(records: &[u8], words: &mut [u32]) {
 }
 
 fn main() {
-    let fd = os::open_read(b"states");
-    if fd < 0 {
-        os::fail(b"states");
-        return;
-    }
     let mut data = io::large_buffer();
-    let n = io::read_full(fd, &mut data);
-    libc::close(fd);
     let mut words = [0u32; 16384];
-    go_through(&data[..n], &mut words);
+    let r = input::read_file(b"states", &mut data);
+    match r {
+        Input::Bytes(n) => go_through(&data[..n], &mut words),
+        Input::Unread => input::tell_unread(),
+    }
 }

@@ -6,6 +6,7 @@ ghost use Prim.Native.Nat.{_+_, _≤_};
 ghost use lib.ListN.{length};
 use atlite::Printed;
 use atlite::Tabled;
+use input::Input;
 
 // The bytes of a record before its text.
 const HEADER: usize = 7;
@@ -107,18 +108,22 @@ fn go_through(records: &[u8], t: Tally) -> Tally
     go_through(&records[end..], u)
 }
 
-fn main() {
-    let fd = os::open_read(b"texts");
-    if fd < 0 {
-        os::fail(b"texts");
-        return;
-    }
-    let mut data = io::large_buffer();
-    let n = io::read_full(fd, &mut data);
-    libc::close(fd);
-    let t = go_through(&data[..n], Tally { all: 0, agreed: 0 });
+// Says how many of the records agree.
+fn report(records: &[u8])
+    requires { ⌜ length (now records) ≤ 65536 ⌝ }
+{
+    let t = go_through(records, Tally { all: 0, agreed: 0 });
     io::print_decimal(1, t.agreed);
     io::write_all(1, b" of ");
     io::print_decimal(1, t.all);
     io::write_all(1, b" texts agree\n");
+}
+
+fn main() {
+    let mut data = io::large_buffer();
+    let r = input::read_file(b"texts", &mut data);
+    match r {
+        Input::Bytes(n) => report(&data[..n]),
+        Input::Unread => input::tell_unread(),
+    }
 }

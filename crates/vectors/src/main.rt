@@ -5,6 +5,7 @@
 // then the input, and what is to be written.
 ghost use Prim.Native.Nat.{_+_, _≤_};
 ghost use lib.ListN.{length};
+use input::Input;
 
 // The file has no more records.
 const RECORDS: u64 = 1000;
@@ -14,6 +15,7 @@ enum Came {
     Agreed,
     Differed,
     Ended,
+    Unread,
 }
 
 // The digit `b`, 0 where it is none.
@@ -60,26 +62,40 @@ fn fill(fd: i32, buffer: &mut [u8], n: usize) -> bool {
     if buffer.len() < n {
         return false;
     }
-    let k = io::read_full(fd, &mut buffer[..n]);
-    k == n
+    let r = input::read_all(fd, &mut buffer[..n]);
+    match r {
+        Input::Bytes(k) => k == n,
+        Input::Unread => false,
+    }
 }
 
-// The next record. One that is cut short or too long agrees with nothing.
+// What stands behind the head of a record. A record that is cut short or too long agrees with nothing.
+fn play_next(fd: i32, head: &[u8; 12]) -> Came {
+    let n = five_digits(head, 0);
+    let m = five_digits(head, 6);
+    let mut input = [0u8; 8194];
+    let mut stored = io::large_buffer();
+    if fill(fd, &mut input, n) {
+        if fill(fd, &mut stored, m) {
+            return compare(&input, n, &stored, m);
+        }
+    }
+    Came::Differed
+}
+
+// The next record. Where no byte of a head is there, the file has ended.
 fn next(fd: i32) -> Came {
     let mut head = [0u8; 12];
-    if fill(fd, &mut head, 12) {
-        let n = five_digits(&head, 0);
-        let m = five_digits(&head, 6);
-        let mut input = [0u8; 8194];
-        let mut stored = io::large_buffer();
-        if fill(fd, &mut input, n) {
-            if fill(fd, &mut stored, m) {
-                return compare(&input, n, &stored, m);
+    let r = input::read_all(fd, &mut head);
+    match r {
+        Input::Bytes(n) => {
+            if n == 0 {
+                return Came::Ended;
             }
+            play_next(fd, &head)
         }
-        return Came::Differed;
+        Input::Unread => Came::Unread,
     }
-    Came::Ended
 }
 
 // Says how many of all records agree.
@@ -102,6 +118,7 @@ fn go_through(fd: i32, left: u64, agreed: u64)
         Came::Agreed => go_through(fd, left - 1, agreed + 1),
         Came::Differed => go_through(fd, left - 1, agreed),
         Came::Ended => tell(agreed, RECORDS - left),
+        Came::Unread => input::tell_unread(),
     }
 }
 

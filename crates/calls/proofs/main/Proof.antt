@@ -1,6 +1,6 @@
--- `main` is safe: the parts that are lent are as long as their counts say. Assumes nothing.
+-- `main` is safe: what was read is a part of its buffer. Assumes nothing.
 use borrow.Author.Needs.{needs}
-use lib.Seq.{length-take-le}
+use Rattle.input.specs.Within.{counted}
 use Rattle.calls.proofs.main.Statement.{statement}
 use Rattle.calls.proofs.main.Tie as tie
 
@@ -9,20 +9,15 @@ main-spec =
     tie.close
     (tie.spec
     (λ c κs. search needs)  -- buffer-requires
-    (λ c. search needs)  -- slice-aggregate-file
-    (λ c. search (needs, length-take-le))  -- slice-aggregate-file-2
-    (λ c κs. search needs)  -- file-requires
-    (λ c κs. search needs)  -- buffer-requires-2
-    (λ c. search needs)  -- slice-aggregate-file-3
-    (λ c. search (needs, length-take-le))  -- slice-aggregate-file-4
-    (λ c κs. search needs)  -- file-requires-2
-    (λ c. search (needs, length-take-le))  -- array-share-prefix-script
-    (λ c. search (needs, length-take-le))  -- slice-aggregate-both
-    (λ c κs. search needs)  -- both-requires
-    (λ c. search (needs, length-take-le))  -- array-share-prefix-script-2
-    (λ c. search (needs, length-take-le))  -- slice-aggregate-all
-    (λ c. search (needs, length-take-le))  -- array-share-prefix-large
-    (λ c. search (needs, length-take-le))  -- slice-aggregate-all-2
-    (λ c κs. search needs)  -- all-requires
+    (λ c. search counted)  -- slice-aggregate-read-file
+    (λ c. search counted)  -- slice-aggregate-read-file-2
+    (λ c κs. search needs)  -- read-file-requires
+    (λ c. search needs)  -- enum-known-r
+    (λ c. search counted)  -- array-share-prefix-script
+    (λ c. search counted)  -- slice-aggregate-with-scripts
+    (λ c κs. search needs)  -- with-scripts-requires
+    (λ c. search needs)  -- enum-told
+    (λ c κs. search needs)  -- tell-unread-requires
     (λ c. search needs)  -- returns
+    (λ c. search needs)  -- returns-2
     )

@@ -9,9 +9,13 @@ fill-spec =
     tie.close
     (tie.spec
     (λ c. search needs)  -- returns
-    (λ c. search needs)  -- slice-relend-prefix-read-full
-    (λ c. search (needs, length-take-le))  -- slice-aggregate-read-full
-    (λ c κs. search needs)  -- read-full-requires
+    (λ c. search needs)  -- slice-relend-prefix-read-all
+    (λ c. search (needs, length-take-le))  -- slice-aggregate-read-all
+    (λ c κs. search needs)  -- read-all-requires
+    (λ c. search needs)  -- enum-known-r
+    (λ c. search needs)  -- enum-told
     (λ c. search needs)  -- same-length
     (λ c. search needs)  -- returns-2
+    (λ c. search needs)  -- same-length-2
+    (λ c. search needs)  -- returns-3
     )
