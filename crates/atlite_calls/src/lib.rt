@@ -33,8 +33,8 @@ pub extern "C" fn atlite_print(table: &[u32], text: &mut [u8], bytes: &mut usize
     ensures { λ r. ⌜ now (bytes .exit) ≡ place itself (now (bytes .entry)) (printCall (now (table .entry)) (now (text .entry)) .result) ⌝ }
 {
     match engine::print(table, text) {
-        Printed::Bytes(n) => {
-            *bytes = n;
+        Printed::Bytes(printed) => {
+            *bytes = printed;
             0
         }
         Printed::Refused(n) => n as u32,
@@ -123,8 +123,8 @@ pub extern "C" fn atlite_list(state: &[u32], text: &mut [u8], bytes: &mut usize)
     ensures { λ r. ⌜ now (bytes .exit) ≡ place itself (now (bytes .entry)) (listCall (now (state .entry)) (now (text .entry)) .result) ⌝ }
 {
     match engine::list(state, text) {
-        Listed::Bytes(n) => {
-            *bytes = n;
+        Listed::Bytes(listed) => {
+            *bytes = listed;
             0
         }
         Listed::Refused(n) => n as u32,

@@ -9,8 +9,8 @@ atlite-list-spec =
     tie.close
     (tie.spec
     (λ c κs. search needs)  -- list-requires
+    (λ c. search needs)  -- enum-known-listed
     (λ c. search needs)  -- enum-known-n
-    (λ c. search needs)  -- enum-known-n-2
     (λ c. search needs)  -- cast-result
     (λ c. search needs)  -- same-length
     (λ c. search listLaws)  -- returns

@@ -9,8 +9,8 @@ atlite-print-spec =
     tie.close
     (tie.spec
     (λ c κs. search needs)  -- print-requires
+    (λ c. search needs)  -- enum-known-printed
     (λ c. search needs)  -- enum-known-n
-    (λ c. search needs)  -- enum-known-n-2
     (λ c. search needs)  -- cast-result
     (λ c. search needs)  -- same-length
     (λ c. search printLaws)  -- returns
