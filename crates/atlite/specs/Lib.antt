@@ -26,9 +26,11 @@ pub mod Move
 pub mod Load
 pub mod Run
 pub mod Listing
--- what the code answers, and what the program prints
+-- what the code answers, and what the programs print
 pub mod Answers
+pub mod Program
 pub mod Loops
+pub mod Replay
 pub mod Examples
 -- laws, which need not be believed
 pub mod Facts
