@@ -12,7 +12,7 @@ use Rattle.atlite.specs.Term.{made, Series, Value, null, num, ref, Name, plain,
 use Rattle.atlite.specs.State.{Message, message, Entity, object, future, resolver, Actor, State, withInbox, fieldOf}
 use Rattle.atlite.specs.Outcome.{Copy, entity, own, namesFuture}
 use Rattle.atlite.specs.Passing.{meet, reach, heldValues, isolatesFor}
-use Rattle.atlite.specs.Rules.{oneOf, pairOf, receiverOf, asNumber, number, plusRule, percentRule, makeRule, newRule, fieldsOf, getRule, setRule, methodsOf, invoke, callRule, futureRule, sendRule, resolves, openFuture, resolveRule, callByName, operate, rule}
+use Rattle.atlite.specs.Rules.{oneOf, pairOf, receiverOf, asNumber, number, plusRule, percentRule, makeRule, newRule, fieldsOf, getRule, setRule, methodsOf, invoke, callRule, futureRule, ownerlessRule, sendRule, resolves, openFuture, resolveRule, callByName, operate, rule}
 use Rattle.atlite.specs.Redex.{redex}
 use Rattle.atlite.specs.Move.{takeTo, takeFrom, takeRule, turn, free, limited, moveWithin, move}
 
@@ -130,13 +130,17 @@ reach-caused zero a A met (v ∷ vs) = stopped refl
 reach-caused (suc k) a A met [] = fine
 reach-caused (suc k) a A met (v ∷ vs) = next (meet-caused a A met v) λ new. reach-caused k a A (met ++ new) (heldValues new ++ vs)
 
+ownerless-caused : (A : Actor) (v : Value) (m : Name) (vs : List Value) → Caused (ownerlessRule A v m vs)
+unfolding ownerlessRule
+ownerless-caused A v (plain m) vs = stopped refl
+ownerless-caused A v (twoWay m) vs = stopped refl
+ownerless-caused A v resolve vs = stopped refl
+ownerless-caused A v register vs = fine
+
 send-caused : (s : List Actor) (a : ℕ) (A : Actor) (v : Value) (m : Name) (vs : List Value) → Caused (sendRule s a A v m vs)
 unfolding sendRule isolatesFor
-send-caused s a A null m vs = stopped refl
-send-caused s a A (num n) (plain m) vs = stopped refl
-send-caused s a A (num n) (twoWay m) vs = stopped refl
-send-caused s a A (num n) resolve vs = stopped refl
-send-caused s a A (num n) register vs = fine
+send-caused s a A null m vs = ownerless-caused A null m vs
+send-caused s a A (num n) m vs = ownerless-caused A (num n) m vs
 send-caused s a A (ref b r n) m vs = tested 12 _ refl (next (either (eqb a b) fine (reach-caused 200 a A [] vs)) λ met. fine)
 
 resolves-caused : (o : Entity) → Caused (resolves o)
