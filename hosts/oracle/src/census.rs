@@ -29,6 +29,7 @@ pub enum Rule {
     SendResolve,
     SendRegister,
     RegisterNumber,
+    RegisterNull,
     TakeWait,
     TakeForward,
     TakeForwardRegister,
@@ -41,7 +42,7 @@ pub enum Rule {
 }
 
 impl Rule {
-    pub const ALL: [Rule; 25] = [
+    pub const ALL: [Rule; 26] = [
         Rule::Let,
         Rule::Plus,
         Rule::Percent,
@@ -59,6 +60,7 @@ impl Rule {
         Rule::SendResolve,
         Rule::SendRegister,
         Rule::RegisterNumber,
+        Rule::RegisterNull,
         Rule::TakeWait,
         Rule::TakeForward,
         Rule::TakeForwardRegister,
@@ -92,6 +94,7 @@ impl Rule {
             Term::Call(_) => Rule::Call,
             Term::Send(send) => match (send.name, send.receiver.value()) {
                 (Name::Register, Some(Value::Number(_))) => Rule::RegisterNumber,
+                (Name::Register, Some(Value::Null)) => Rule::RegisterNull,
                 (Name::Register, _) => Rule::SendRegister,
                 (Name::Resolve, _) => Rule::SendResolve,
                 (Name::TwoWay(_), _) => Rule::SendTwoWay,

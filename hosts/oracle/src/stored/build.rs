@@ -30,6 +30,11 @@ pub fn resolving(receiver: Value, value: Value) -> Term {
     Term::call(Term::Value(receiver), Name::Resolve, vec![Term::Value(value)])
 }
 
+/// A send of .register.
+pub fn registering(receiver: Value, listener: Value) -> Term {
+    Term::send(Term::Value(receiver), Name::Register, vec![Term::Value(listener)])
+}
+
 /// So many gets of the first word around a term.
 pub fn around(term: Term, gets: usize) -> Term {
     (0..gets).fold(term, |inner, _| Term::Get(Word(0), Box::new(inner)))

@@ -42,9 +42,10 @@ fn receivers() -> Vec<Case> {
         case("call-num", "(call 1 m 1 2 3)\n", call, 10),
         case("send-null", "(send null m)\n", Rule::SendOwn, 10),
         case("send-num", "(send 5 m 1)\n", Rule::SendOwn, 10),
+        case("ask-null", "(ask null m)\n", Rule::SendTwoWay, 10),
         case("ask-num", "(ask 5 m)\n", Rule::SendTwoWay, 10),
+        case("res-null", "(resolve null 6)\n", Rule::SendResolve, 10),
         case("res-num", "(resolve 5 6)\n", Rule::SendResolve, 10),
-        case("reg-null", "(resolve null null)\n", Rule::SendRegister, 10),
         case("get-other", "(get (actor (field a 1)) a)\n", get, 11),
         case("set-other", "(set (actor (field a 1)) a 1)\n", set, 11),
         case("call-oth", "(call (actor (method m () 1)) m)\n", call, 11),
@@ -75,6 +76,7 @@ fn numbers() -> Vec<Case> {
         case("pct-wide", "(percent 16777215 16777215)\n", Rule::Percent, 15),
         case("before-16", "(plus null 1)\n", Rule::Plus, 15).change(|state| state.actors[0].moves = most::MOVES),
         case("10-or-16", "(get null a)\n", Rule::Get, 10).change(|state| state.actors[0].moves = most::MOVES),
+        case("sent-10", "(send null m)\n", Rule::SendOwn, 10).change(|state| state.actors[0].moves = most::MOVES),
         case("res-obj", "(resolve (object) 5)\n", Rule::CallResolve, 12),
     ]
 }

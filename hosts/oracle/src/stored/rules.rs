@@ -12,7 +12,7 @@ pub fn groups() -> Vec<Group> {
         group("names", names()),
         group("heap", heap()),
         group("literals", literals()),
-        group("sends", sends()),
+        group("sends", sends().into_iter().chain(listeners()).collect()),
         group("isolates", isolates()),
         group("resolving", resolving()),
         group("takes", takes()),
@@ -120,6 +120,7 @@ fn sends() -> Vec<Case> {
     let ask = format!("(ask {shop} m 1 2 3)\n");
     let back = format!("(future f r (send {shop} back r))\n");
     let when = format!("(future f r (send {shop} w f))\n");
+    let asked = "(ask (actor (method m () null)) m)\n";
     vec![
         Case::new("own", "(send (object) m)\n", own, sent(0)),
         Case::new("own-3", "(plus 1 (send (object) m 1 null 3))\n", own, sent(0)),
@@ -139,6 +140,31 @@ fn sends() -> Vec<Case> {
         Case::new("reg-other", when, register, sent(0)).order("01").mover(1),
         Case::new("reg-num", "(when 5 x x)\n", Rule::RegisterNumber, INNER),
         Case::new("reg-in", "(plus (when 0 x x) 1)\n", Rule::RegisterNumber, INNER),
+        Case::new("reg-null", "(resolve null null)\n", Rule::RegisterNull, INNER),
+        Case::new("when-null", "(when null x x)\n", Rule::RegisterNull, INNER),
+        Case::new("null-in", "(plus (when null x x) 1)\n", Rule::RegisterNull, INNER),
+        Case::new("null-told", asked, Rule::RegisterNull, INNER).order("01").mover(1),
+    ]
+}
+
+/// What null tells its value to. Scripts bring objects alone; a state may have any value there.
+fn listeners() -> Vec<Case> {
+    let told = |name, text: &str, actors: usize, listener: Value| {
+        Case::new(name, text, Rule::RegisterNull, INNER).wanted(move |state| state.actors.len() == actors).change(
+            move |state| {
+                let there = state.actors.len() == actors && !state.actors[actors - 1].made.is_empty();
+                if there && state.actors[0].expression.value().is_some() {
+                    state.actors[0].expression = registering(Value::Null, listener);
+                }
+            },
+        )
+    };
+    vec![
+        told("to-null", "(object)\n", 1, Value::Null),
+        told("to-number", "(object)\n", 1, Value::Number(7)),
+        told("to-iso", "(isolate (field a 1))\n", 1, made(0, 0)),
+        told("to-fut", "(future f r r)\n", 1, made(0, 0)),
+        told("to-other", "(actor)\n", 2, made(1, 0)),
     ]
 }
 
