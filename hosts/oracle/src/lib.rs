@@ -5,8 +5,8 @@
 //! readings of the rules agree.
 //!
 //! A text becomes a [`Table`] by [`read`] and a table a [`State`] by [`load`]. [`step`] makes one move and [`run`] a
-//! schedule of them, [`list`] writes a state down, and [`loops`] is all of these in a row. Refusals are the numbers in
-//! [`cause`].
+//! schedule of them, [`list`] writes a state down, and [`loops`] is all of these in a row. [`replay`] is the same and
+//! tells what each move answered. Refusals are the numbers in [`cause`].
 //!
 //! Two choices run through the crate. Words are places in a dictionary, so comparing names is comparing numbers. And
 //! node counts are kept beside what they count rather than taken anew at each move; substitution puts one node where
@@ -23,6 +23,8 @@ pub mod loops;
 pub mod moves;
 pub mod parcel;
 pub mod print;
+pub mod program;
+pub mod replay;
 pub mod scope;
 pub mod script;
 pub mod state;
@@ -36,6 +38,7 @@ pub use listing::list;
 pub use loops::loops;
 pub use moves::{run, step, Answer};
 pub use print::print;
+pub use replay::replay;
 pub use script::{Script, Table};
 pub use state::{load, State};
 pub use text::read;

@@ -1,37 +1,26 @@
 //! The program `loops`: a schedule line and a script in, a listing or a refusal out.
 
 use crate::cause;
-use crate::{list, load, read, run};
-
-/// Entries of the longest schedule line.
-const MOST_ENTRIES: usize = 4096;
-/// Bytes of the longest listing.
-const MOST_LISTING: usize = 65_536;
+use crate::program::{listed, parts, shown, started};
+use crate::run;
 
 /// What the program prints for an input.
 pub fn loops(input: &[u8]) -> Vec<u8> {
-    attempt(input).unwrap_or_else(|cause| format!("(refused {cause})\n").into_bytes())
+    shown(attempt(input))
 }
 
 fn attempt(input: &[u8]) -> Result<Vec<u8>, u8> {
     let (schedule, text) = split(input).ok_or(cause::GRAMMAR)?;
-    let mut state = load(&read(text)?)?;
+    let mut state = started(text)?;
     run(&mut state, &schedule);
-    let listing = list(&state);
-    if listing.len() > MOST_LISTING {
-        return Err(cause::ROOM);
-    }
-    Ok(listing)
+    listed(&state)
 }
 
 /// The schedule as actor numbers, and the script after it; nothing if the first line is no schedule.
 pub fn split(input: &[u8]) -> Option<(Vec<u8>, &[u8])> {
-    let end = input.iter().position(|byte| *byte == b'\n')?;
-    let (line, text) = (&input[..end], &input[end + 1..]);
-    if line.len() > MOST_ENTRIES || !line.iter().all(|digit| (b'0'..=b'3').contains(digit)) {
-        return None;
-    }
-    Some((line.iter().map(|digit| digit - b'0').collect(), text))
+    let (line, text) = parts(input)?;
+    let schedule = line.iter().map(|digit| (b'0'..=b'3').contains(digit).then(|| digit - b'0'));
+    Some((schedule.collect::<Option<_>>()?, text))
 }
 
 #[cfg(test)]

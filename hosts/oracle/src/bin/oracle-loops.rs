@@ -1,9 +1,7 @@
 //! `loops` on standard input and output.
 
-use std::io::{self, Read, Write};
+use std::io;
 
 fn main() -> io::Result<()> {
-    let mut input = Vec::new();
-    io::stdin().lock().read_to_end(&mut input)?;
-    io::stdout().lock().write_all(&oracle::loops(&input))
+    oracle::program::on_standard_streams(oracle::loops)
 }

@@ -1,16 +1,20 @@
-//! Runs stored vectors: for each NAME given, the inputs of NAME.in against the outputs of NAME.out.
+//! Runs stored vectors: for each NAME given, the inputs of NAME.in against the outputs of NAME.out, as `loops` prints
+//! them or, with `--replay`, as `replay` does.
 //!
 //! Prints how many agree, shows those that don't, and fails if there is one.
 
 use std::process::ExitCode;
 use std::{env, fs, io};
 
+use oracle::program::Program;
 use oracle::vectors::entries;
 
 fn main() -> io::Result<ExitCode> {
+    let (options, names): (Vec<_>, Vec<_>) = env::args().skip(1).partition(|arg| arg == "--replay");
+    let program: Program = if options.is_empty() { oracle::loops } else { oracle::replay };
     let (mut good, mut bad) = (0, 0);
-    for name in env::args().skip(1) {
-        let (found, wrong) = check(&name)?;
+    for name in names {
+        let (found, wrong) = check(&name, program)?;
         println!("{name}: {found} agree, {wrong} differ");
         good += found;
         bad += wrong;
@@ -19,7 +23,7 @@ fn main() -> io::Result<ExitCode> {
     Ok(if bad == 0 && good > 0 { ExitCode::SUCCESS } else { ExitCode::FAILURE })
 }
 
-fn check(name: &str) -> io::Result<(usize, usize)> {
+fn check(name: &str, program: Program) -> io::Result<(usize, usize)> {
     let (inputs, outputs) = (fs::read(format!("{name}.in"))?, fs::read(format!("{name}.out"))?);
     let malformed = || io::Error::new(io::ErrorKind::InvalidData, format!("{name} is no file of vectors"));
     let inputs = entries(&inputs).ok_or_else(malformed)?;
@@ -27,7 +31,7 @@ fn check(name: &str) -> io::Result<(usize, usize)> {
     let mut bad = inputs.len().abs_diff(outputs.len());
     let mut good = 0;
     for (at, (input, wanted)) in inputs.iter().zip(&outputs).enumerate() {
-        let printed = oracle::loops(input);
+        let printed = program(input);
         if printed == *wanted {
             good += 1;
         } else {

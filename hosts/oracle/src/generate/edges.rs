@@ -301,7 +301,7 @@ fn wide_heaps(layers: usize, actors: usize) -> String {
 }
 
 /// An input whose listing has a size, found by running it: first moves until little is missing, then longer words.
-fn listing_of_size(size: usize) -> Vec<u8> {
+pub(crate) fn listing_of_size(size: usize) -> Vec<u8> {
     let input = |moves: usize, more: usize| {
         let line = "0".repeat(40) + &"1".repeat(100) + &"2".repeat(100) + &"3".repeat(moves);
         joined(&line, (padding(more) + &wide_heaps(22, 3)).as_bytes())

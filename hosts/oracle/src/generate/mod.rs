@@ -1,4 +1,4 @@
-//! Inputs of `loops` made at random, the same for the same seed.
+//! Inputs of `loops` and of `replay` made at random, the same for the same seed.
 //!
 //! Four sources, each after something that the others seldom meet: [`typed`] makes scripts of all forms in which most
 //! moves succeed; [`edges`] makes scripts that come up to one limit, or just past it; [`damage`] breaks texts and
@@ -23,6 +23,23 @@ pub fn input(rng: &mut Rng) -> Vec<u8> {
         }
         _ => joined(&schedule(rng, 10), damage::tokens(rng).as_bytes()),
     }
+}
+
+/// One input of `replay`: one of `loops` whose line is cut into tokens, and now and then has something else in it.
+pub fn calls(rng: &mut Rng) -> Vec<u8> {
+    let whole = input(rng);
+    let end = whole.iter().position(|byte| *byte == b'\n').unwrap_or(whole.len());
+    let (often, mut line) = (rng.pick(&[0, 5, 30, 100]), Vec::new());
+    for digit in &whole[..end] {
+        if !line.is_empty() && rng.chance(often) {
+            line.push(b' ');
+        }
+        line.push(if rng.chance(2) { digit_byte(rng, 10) } else { *digit });
+    }
+    if rng.chance(8) {
+        line.insert(rng.below(line.len() as u64 + 1) as usize, rng.pick(b" 09/:mxw(\t\r"));
+    }
+    [&line, &whole[end..]].concat()
 }
 
 fn typed_input(rng: &mut Rng) -> Vec<u8> {
@@ -76,7 +93,11 @@ fn bursts(rng: &mut Rng, length: usize, actors: u64) -> String {
 }
 
 fn digit(rng: &mut Rng, actors: u64) -> char {
-    char::from(b'0' + rng.below(actors) as u8)
+    char::from(digit_byte(rng, actors))
+}
+
+fn digit_byte(rng: &mut Rng, end: u64) -> u8 {
+    b'0' + rng.below(end) as u8
 }
 
 #[cfg(test)]
@@ -91,6 +112,15 @@ mod tests {
         };
         assert_eq!(inputs(7), inputs(7));
         assert_ne!(inputs(7), inputs(8));
+    }
+
+    #[test]
+    fn most_lines_of_calls_are_good() {
+        let (mut rng, mut bad) = (Rng::new(3), 0);
+        for _ in 0..500 {
+            bad += usize::from(crate::replay(&calls(&mut rng)) == b"(bad token)\n");
+        }
+        assert!((10..80).contains(&bad), "{bad}");
     }
 
     #[test]
