@@ -4,7 +4,7 @@ use oracle::generate::rng::Rng;
 use oracle::generate::{joined, live, schedule};
 
 /// Bodies of the methods. What they are given is not always what they ask of it.
-const GO: [&str; 12] = [
+const GO: [&str; 14] = [
     "(send x go y this)",
     "(send y go this x)",
     "(send x put (plus (get this n) 1))",
@@ -14,6 +14,8 @@ const GO: [&str; 12] = [
     "(ask x tell y)",
     "(when (ask x tell y) v (send y put v))",
     "(when (ask y tell this) v (set this k v))",
+    "(when (ask x tell y) v (send y keep v))",
+    "(when null v (send x keep v))",
     "(send this put 5)",
     "(set this k (actor (field n 1) (method put (v) (set this n v))))",
     "(future f r (seq (send x keep f) (resolve r y)))",
@@ -28,7 +30,8 @@ const PUT: [&str; 6] = [
 ];
 const KEEP: [&str; 6] =
     ["(set this k v)", "(get v l)", "(send this put (get this k))", "v", "(set v l v)", "(send (get this k) put v)"];
-const TELL: [&str; 7] = [
+/// What is asked for; the last two come to null.
+const TELL: [&str; 9] = [
     "(get this n)",
     "(seq (send x put 1) 7)",
     "this",
@@ -36,9 +39,11 @@ const TELL: [&str; 7] = [
     "(ask x tell this)",
     "(get this k)",
     "(object (field n 1))",
+    "(seq (set this n 2) null)",
+    "(send x put 2)",
 ];
 /// Lines after the definitions of the actors.
-const LINES: [&str; 12] = [
+const LINES: [&str; 14] = [
     "(send a go b c)",
     "(send b go c a)",
     "(send c go a b)",
@@ -51,6 +56,8 @@ const LINES: [&str; 12] = [
     "(future f r (seq (send c keep f) (resolve r (ask b tell a))))",
     "(let i (isolate (field l 4)) (seq (send a keep i) (send b keep i)))",
     "(when (ask b tell c) v (when (ask c tell a) w (send a put v)))",
+    "(when null v (send a keep v))",
+    "(future f r (seq (send b keep f) (resolve r null)))",
 ];
 
 /// A schedule line and a script.

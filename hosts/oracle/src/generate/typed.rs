@@ -233,7 +233,7 @@ impl Writer<'_> {
 
     /// What a listener can be registered with.
     fn source(&mut self) -> Kind {
-        self.rng.pick(&[Kind::Number, Kind::Object, Kind::Isolate, Kind::Actor, Kind::Future, Kind::Future])
+        self.rng.pick(&[Kind::Number, Kind::Null, Kind::Object, Kind::Isolate, Kind::Actor, Kind::Future, Kind::Future])
     }
 
     fn method(&mut self) -> (&'static str, usize) {
