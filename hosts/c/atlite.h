@@ -51,7 +51,7 @@ enum {
     ATLITE_NEITHER = 7,      /* the words are not those of a table that was read, or of a state */
     ATLITE_NO_ACTOR = 8,     /* there is no such actor */
     ATLITE_NOTHING = 9,      /* the actor's expression is a value and its inbox is empty */
-    ATLITE_RECEIVER = 10,    /* the receiver is null or a number */
+    ATLITE_RECEIVER = 10,    /* get, set, call or send on null or a number, which take nothing but a listener */
     ATLITE_NOT_OWN = 11,     /* get, set or call on what another actor owns */
     ATLITE_NO_MEMBER = 12,   /* no such field or method, another number of arguments, or an entity of another kind */
     ATLITE_RESOLVED = 13,    /* the future is resolved already */

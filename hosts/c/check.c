@@ -234,6 +234,9 @@ static void moving(void)
         uint32_t cause;
     } refused[] = {
         {"(get null a)\n", ATLITE_RECEIVER},
+        {"(ask null m)\n", ATLITE_RECEIVER},
+        {"(resolve null 5)\n", ATLITE_RECEIVER},
+        {"(when null x x)\n", ATLITE_NOTHING},
         {"(get (actor (field a 1)) a)\n", ATLITE_NOT_OWN},
         {"(get (object (field a 1)) b)\n", ATLITE_NO_MEMBER},
         {"(future f r (seq (call r apply 1) f))\n", ATLITE_NO_MEMBER},

@@ -28,7 +28,7 @@ static const char *const causes[] = {
     "the words are not those of a table, or of a state",
     "there is no such actor",
     "nothing to do: a value, and the inbox is empty",
-    "the receiver is null or a number",
+    "get, set, call or send on null or a number",
     "get, set or call on what another actor owns",
     "no such field or method, another number of arguments, or an entity of another kind",
     "the future is resolved already",

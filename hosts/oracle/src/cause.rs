@@ -18,7 +18,7 @@ pub const NO_STATE: u8 = 7;
 pub const NO_ACTOR: u8 = 8;
 /// The actor has nothing to do.
 pub const IDLE: u8 = 9;
-/// The receiver is no reference.
+/// The receiver is null or a number, and the message not one that brings a listener.
 pub const NO_RECEIVER: u8 = 10;
 /// The entity belongs to another actor.
 pub const FOREIGN: u8 = 11;

@@ -36,7 +36,7 @@ pub enum Refusal {
     NoActor = 8,
     /// The actor's expression is a value and its inbox is empty.
     Nothing = 9,
-    /// The receiver is null or a number.
+    /// Get, set, call or send on null or a number, which take nothing but a listener.
     Receiver = 10,
     /// Get, set or call on what another actor owns.
     NotOwn = 11,
@@ -107,7 +107,7 @@ impl Refusal {
             Refusal::Neither => "the words are not those of a table, or of a state",
             Refusal::NoActor => "there is no such actor",
             Refusal::Nothing => "nothing to do: a value, and the inbox is empty",
-            Refusal::Receiver => "the receiver is null or a number",
+            Refusal::Receiver => "get, set, call or send on null or a number",
             Refusal::NotOwn => "get, set or call on what another actor owns",
             Refusal::NoMember => {
                 "no such field or method, another number of arguments, or an entity of another kind"

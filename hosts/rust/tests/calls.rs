@@ -133,6 +133,9 @@ fn moves_are_refused_with_their_cause() {
     let cases = [
         ("null\n", Refusal::Nothing),
         ("(get null a)\n", Refusal::Receiver),
+        ("(ask null m)\n", Refusal::Receiver),
+        ("(resolve null 5)\n", Refusal::Receiver),
+        ("(when null x x)\n", Refusal::Nothing),
         ("(get (actor (field a 1)) a)\n", Refusal::NotOwn),
         ("(get (object (field a 1)) b)\n", Refusal::NoMember),
         (
