@@ -1,8 +1,8 @@
--- A program may stop reading at 8,194 bytes: the longest input that is played has 8,193, and what is longer is refused for what stands in
--- front. Assumes nothing.
+-- A program may stop reading at 8,194 bytes: the longest input that is not refused has 8,193, a line of 4,096 bytes, its end and a script of
+-- 4,096 bytes, and what is longer is refused for what stands in front. One law of the line and the script serves both programs. Assumes nothing.
 use Prim.Native.Nat.{ℕ, zero, suc, _+_, _-_, _≤_, _<_}
 use mathlib.Core.Path.{_≡_, refl, sym, ap, _∙_}
-use mathlib.Core.Bool.{Bool, true, false, _&&_}
+use mathlib.Core.Bool.{Bool, true, false}
 use mathlib.Core.List.{List, [], _∷_}
 use mathlib.Core.Option.{Option, none, some}
 use native.Mathlib.Omega.{arith}
@@ -10,108 +10,109 @@ use borrow.Author.Tests.{lt-ltb, le-ltb, ltb-true, ltb-false, lt-leb, leb-true, 
 use lib.ListN.{length, take, length-take}
 use lib.Seq.{take-all}
 use lib.Dec.{eqb, leb, ltb}
-use Rattle.atlite.specs.Base.{refused, orRefuse, require}
+use Rattle.atlite.specs.Base.{Result, refused, _>>=_, orRefuse, require, if_then_else_}
 use Rattle.atlite.specs.Lexicon.{Bytes, newline}
 use Rattle.atlite.specs.Table.{read}
-use Rattle.atlite.specs.Loops.{Input, entry, split, played, shown, loops}
-use Rattle.play.specs.Playing.{ofText, played-is}
+use Rattle.atlite.specs.Run.{run}
+use Rattle.atlite.specs.Program.{Input, longer, split, short, started, listed, shown}
+use Rattle.atlite.specs.Loops.{schedule, played, loops}
+use Rattle.play.specs.Limits.{longest, scriptMost, inputRoom}
 
 -- what is left of an input that is cut off behind k bytes: its line, if that ends before
+abbrev kept : ℕ → Input → Input
+kept k i = record { line = i .line; script = take (k - (length (i .line) + 1)) (i .script) }
+
 unfoldable shorter : ℕ → Input → Bool → Option Input
-shorter k i true = some (record { schedule = i .schedule; script = take (k - (length (i .schedule) + 1)) (i .script) })
+shorter k i true = some (kept k i)
 shorter k i false = none
 
 unfoldable cut : ℕ → Option Input → Option Input
 cut k none = none
-cut k (some i) = shorter k i (ltb (length (i .schedule)) k)
+cut k (some i) = shorter k i (ltb (length (i .line)) k)
 
-cut-ends : (k : ℕ) (i : Input) → length (i .schedule) < k → cut k (some i) ≡ some (record { schedule = i .schedule; script = take (k - (length (i .schedule) + 1)) (i .script) })
-unfolding cut shorter
-cut-ends k i h = rw (lt-ltb (length (i .schedule)) k h)
-
-cut-none : (k : ℕ) (i : Input) → k ≤ length (i .schedule) → cut k (some i) ≡ none
-unfolding cut shorter
-cut-none k i h = rw (le-ltb (length (i .schedule)) k h)
-
-cut-entry : (b k : ℕ) (o : Option Input) → entry b (cut k o) ≡ cut (suc k) (entry b o)
-unfolding cut shorter entry
-cut-entry b k none = refl
-cut-entry b k (some i) = go (ltb (length (i .schedule)) k) refl
+cut-longer : (b k : ℕ) (o : Option Input) → longer b (cut k o) ≡ cut (suc k) (longer b o)
+unfolding cut shorter longer
+cut-longer b k none = refl
+cut-longer b k (some i) = go (ltb (length (i .line)) k) refl
   where
-    go : (c : Bool) → ltb (length (i .schedule)) k ≡ c → entry b (cut k (some i)) ≡ cut (suc k) (entry b (some i))
+    go : (c : Bool) → ltb (length (i .line)) k ≡ c → longer b (cut k (some i)) ≡ cut (suc k) (longer b (some i))
     go true e =
-        let z : suc k - (suc (length (i .schedule)) + 1) ≡ k - (length (i .schedule) + 1) = omega arith in
-        rw (e, lt-ltb (suc (length (i .schedule))) (suc k) (omega (arith, ltb-true (length (i .schedule)) k e)), z)
-    go false e = rw (e, le-ltb (suc (length (i .schedule))) (suc k) (omega (arith, ltb-false (length (i .schedule)) k e)))
+        let z : suc k - (suc (length (i .line)) + 1) ≡ k - (length (i .line) + 1) = omega arith in
+        rw (e, lt-ltb (suc (length (i .line))) (suc k) (omega (arith, ltb-true (length (i .line)) k e)), z)
+    go false e = rw (e, le-ltb (suc (length (i .line))) (suc k) (omega (arith, ltb-false (length (i .line)) k e)))
 
 -- the first byte is kept
 split-step : (b : ℕ) (w : List ℕ) (k : ℕ) → split (take k w) ≡ cut k (split w) → split (b ∷ take k w) ≡ cut (suc k) (split (b ∷ w))
-unfolding split cut shorter
-split-step b w k h = go (eqb b newline) (leb 48 b && leb b 51)
+unfolding split cut shorter if_then_else_
+split-step b w k h = go (eqb b newline)
   where
-    first : List ℕ → Bool → Bool → Option Input
-    first t c d = elim c as (λ x. Option Input) [ true ↦ some (record { schedule = []; script = t }) | false ↦ elim d as (λ x. Option Input) [ true ↦ entry b (split t) | false ↦ none ] ]
+    first : List ℕ → Bool → Option Input
+    first t c = if c then some (record { line = []; script = t }) else longer b (split t)
 
-    go : (c d : Bool) → first (take k w) c d ≡ cut (suc k) (first w c d)
-    go true d = let z : suc k - (0 + 1) ≡ k = omega arith in rw (lt-ltb 0 (suc k) (omega arith), z)
-    go false true = ap (entry b) h ∙ cut-entry b k (split w)
-    go false false = refl
+    go : (c : Bool) → first (take k w) c ≡ cut (suc k) (first w c)
+    go true = let z : suc k - (0 + 1) ≡ k = omega arith in rw (lt-ltb 0 (suc k) (omega arith), z)
+    go false = ap (longer b) h ∙ cut-longer b k (split w)
 
 split-take : (w : List ℕ) (k : ℕ) → split (take k w) ≡ cut k (split w)
-unfolding split cut
+unfolding split cut shorter
 split-take [] zero = refl
 split-take [] (suc k) = refl
 split-take (b ∷ w) zero = go (split (b ∷ w))
   where
     go : (o : Option Input) → none ≡ cut 0 o
     go none = refl
-    go (some i) = sym (cut-none 0 i (omega arith))
+    go (some i) = rw (le-ltb (length (i .line)) 0 (omega arith))
 split-take (b ∷ w) (suc k) = split-step b w k (split-take w k)
 
--- ---- what is played
-text-long : (es : List ℕ) (t : Bytes) → 4096 < length t → ofText es t ≡ refused 1
-unfolding ofText read require
-text-long es t h = rw (lt-ltb 0 (length t) (omega arith), lt-leb (length t) 4096 h)
+-- ---- what both programs look at
+-- The two inputs begin with the same line, or with none, and their scripts start alike.
+data Alike : Option Input → Option Input → Type 0 where
+  neither : Alike none none
+  both : (i j : Input) → i .line ≡ j .line → started (i .script) ≡ started (j .script) → Alike (some i) (some j)
 
-module _ (w : List ℕ) (i : Input) (e : split w ≡ some i) where
-  abbrev short : Input
-  short = record { schedule = i .schedule; script = take (8194 - (length (i .schedule) + 1)) (i .script) }
+started-long : (t : Bytes) → scriptMost < length t → started t ≡ refused 1
+unfolding started read require
+started-long t h = rw (lt-ltb 0 (length t) (omega arith), lt-leb (length t) scriptMost h)
 
-  -- a line that is too long is too long in front too
-  cut-long : 4096 < length (i .schedule) → played (take 8194 w) ≡ played w
-  unfolding played orRefuse require cut shorter
-  cut-long h = go (ltb (length (i .schedule)) 8194) refl
-    where
-      go : (c : Bool) → ltb (length (i .schedule)) 8194 ≡ c → played (take 8194 w) ≡ played w
-      go true d = rw (split-take w 8194, e, d, lt-leb (length (i .schedule)) 4096 h)
-      go false d = rw (split-take w 8194, e, d, lt-leb (length (i .schedule)) 4096 h)
-
-  -- else what is read of the script is all of it, or too long
-  module _ (h : length (i .schedule) ≤ 4096) where
-    line-there : split (take 8194 w) ≡ some short
-    line-there = split-take w 8194 ∙ ap (cut 8194) e ∙ cut-ends 8194 i (omega arith)
-
-    cut-script : ofText (i .schedule) (short .script) ≡ ofText (i .schedule) (i .script)
-    cut-script = go (leb (length (i .script)) 4096) refl
-      where
-        go : (c : Bool) → leb (length (i .script)) 4096 ≡ c → ofText (i .schedule) (short .script) ≡ ofText (i .schedule) (i .script)
-        go true d = ap (ofText (i .schedule)) (take-all (8194 - (length (i .schedule) + 1)) (i .script) (omega (arith, leb-true (length (i .script)) 4096 d)))
-        go false d =
-            let l : 4096 < length (i .script) = leb-false (length (i .script)) 4096 d in
-            text-long (i .schedule) (short .script) (omega (arith, length-take (8194 - (length (i .schedule) + 1)) (i .script))) ∙ sym (text-long (i .schedule) (i .script) l)
-
-    cut-short : played (take 8194 w) ≡ played w
-    cut-short = played-is (take 8194 w) short line-there h ∙ cut-script ∙ sym (played-is w i e h)
-
--- the first 8,194 bytes decide what is written
-pub loops-take : (w : List ℕ) → loops (take 8194 w) ≡ loops w
-unfolding loops played orRefuse cut
-loops-take w = ap shown (go (split w) refl)
+-- of a script behind a line that is not too long all is kept, or too much
+started-kept : (i : Input) → length (i .line) ≤ longest → started (kept inputRoom i .script) ≡ started (i .script)
+started-kept i h = go (leb (length (i .script)) scriptMost) refl
   where
-    go : (o : Option Input) → split w ≡ o → played (take 8194 w) ≡ played w
-    go none e = rw (split-take w 8194, e)
-    go (some i) e = by (leb (length (i .schedule)) 4096) refl
+    k : ℕ
+    k = inputRoom - (length (i .line) + 1)
+
+    go : (c : Bool) → leb (length (i .script)) scriptMost ≡ c → started (take k (i .script)) ≡ started (i .script)
+    go true d = ap started (take-all k (i .script) (omega (arith, leb-true (length (i .script)) scriptMost d)))
+    go false d =
+        let l : scriptMost < length (i .script) = leb-false (length (i .script)) scriptMost d in
+        started-long (take k (i .script)) (omega (arith, length-take k (i .script))) ∙ sym (started-long (i .script) l)
+
+cut-alike : (o : Option Input) → Alike (short (cut inputRoom o)) (short o)
+unfolding cut shorter short if_then_else_
+cut-alike none = neither
+cut-alike (some i) = go (leb (length (i .line)) longest) refl
+  where
+    go : (c : Bool) → leb (length (i .line)) longest ≡ c → Alike (short (cut inputRoom (some i))) (short (some i))
+    go true d =
+        let l : length (i .line) ≤ longest = leb-true (length (i .line)) longest d in
+        rw (lt-ltb (length (i .line)) inputRoom (omega arith), d) (both (kept inputRoom i) i refl (started-kept i l))
+    go false d = by (ltb (length (i .line)) inputRoom) refl
       where
-        by : (c : Bool) → leb (length (i .schedule)) 4096 ≡ c → played (take 8194 w) ≡ played w
-        by true d = cut-short w i e (leb-true (length (i .schedule)) 4096 d)
-        by false d = cut-long w i e (leb-false (length (i .schedule)) 4096 d)
+        by : (e : Bool) → ltb (length (i .line)) inputRoom ≡ e → Alike (short (cut inputRoom (some i))) (short (some i))
+        by true e = rw (e, d) neither
+        by false e = rw (e, d) neither
+
+input-take : (w : List ℕ) → Alike (short (split (take inputRoom w))) (short (split w))
+input-take w = rw (split-take w inputRoom) (cut-alike (split w))
+
+-- ---- the first 8,194 bytes decide what is written
+pub loops-take : (w : List ℕ) → loops (take inputRoom w) ≡ loops w
+unfolding loops played orRefuse
+loops-take w = ap shown (go (short (split (take inputRoom w))) (short (split w)) (input-take w))
+  where
+    behind : Input → Result Bytes
+    behind i = orRefuse 2 (schedule (i .line)) >>= λ es. (started (i .script) >>= λ σ. listed (run σ es .state))
+
+    go : (o p : Option Input) → Alike o p → (orRefuse 2 o >>= behind) ≡ (orRefuse 2 p >>= behind)
+    go o p neither = refl
+    go o p (both i j e d) = rw (e, d)

@@ -1,6 +1,11 @@
--- the schedule line, and what its reader has to show
+-- what both programs share: the first line, its entries, the state that a script starts in, and what is written
+pub mod Limits
+pub mod Lines
+pub mod Entries
+pub mod Starts
+pub mod Written
+pub mod Listings
+-- `loops`: the schedule line, and the run behind it
 pub mod Schedules
--- the chain of calls behind it
-pub mod Playing
 -- how much of an input decides
 pub mod Inputs

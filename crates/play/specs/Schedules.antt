@@ -1,148 +1,126 @@
--- The schedule line that an input begins with, and what the loop that reads it has to show: the numbers read so far stand before those
--- of the line that is left. Assumes nothing.
+-- `loops`: the entries of a schedule line, and what is written once each of its calls has been made. Assumes nothing.
 use Prim.Native.Nat.{ℕ, _+_, _-_, _≤_, _<_}
 use mathlib.Core.Path.{_≡_, refl, sym, ap, _∙_}
-use mathlib.Core.List.{List, [], _∷_, _++_, append-assoc, append-nil}
-use mathlib.Core.Option.{Option, none, some}
+use mathlib.Core.List.{List, [], _∷_, _++_}
+use mathlib.Core.Option.{none}
 use native.Mathlib.Omega.{arith}
-use native.Mathlib.Numerals.{add-one}
 use borrow.Author.Needs.{needs}
-use borrow.Author.Tests.{eq-eqb, ne-eqb, le-leb, lt-leb}
-use lib.ListN.{length, take, drop, getD, set, length-append, length-take, length-set}
-use lib.Seq.{drop-cons, drop-length, take-suc-set, length-take-le}
-use Rattle.atlite.specs.Base.{refused, orRefuse, require}
-use Rattle.atlite.specs.Facts.{none-some}
-use Rattle.atlite.specs.Loops.{Input, entry, split, played}
-use Rattle.play.specs.declared.Line.{Line}
-use Rattle.play.specs.declared.Line.the-variants.{Entries, Bad}
+use borrow.Author.Tests.{le-leb, lt-leb}
+use lib.ListN.{length, take, drop, getD, set}
+use lib.Seq.{drop-length, length-take-le}
+use Rattle.atlite.specs.Base.{Result, done, refused, _>>=_, orRefuse, if_then_else_}
+use Rattle.atlite.specs.Lexicon.{Bytes}
+use Rattle.atlite.specs.State.{State}
+use Rattle.atlite.specs.Run.{run}
+use Rattle.atlite.specs.Program.{listed, shown}
+use Rattle.atlite.specs.Loops.{entry, schedule, played, loops}
+use Rattle.invariant.specs.Moves.{run-keeps}
+use Rattle.layout.specs.Layout.{stateWords, encode}
+use Rattle.layout.specs.Meaning.{lent, runCall}
+use Rattle.layout.specs.MeaningLaws.{lent-state, state-lent, run-unlent, run-leaves}
+use Rattle.play.specs.declared.line.Line.{Line}
+use Rattle.play.specs.declared.line.Line.the-variants.{Unended}
+use Rattle.play.specs.declared.line.Entries.{Entries}
+use Rattle.play.specs.declared.line.Entries.the-variants.{Read, Bad}
+use Rattle.play.specs.Limits.{longest}
+use Rattle.play.specs.Lines.{Opened, LineOf, first-byte, script-lent, line-opened, line-length, line-short, line-none}
+use Rattle.play.specs.Entries.{EntriesOf, Reading, entries-held, entries-few, entries-inside, entries-none, read-starts, read-ends, read-fails, read-goes}
+use Rattle.play.specs.Starts.{ofText, ofWords, start-shows, start-stops}
+use Rattle.play.specs.Written.{Written, written-same, result-same}
+use Rattle.play.specs.Listings.{headed}
 
--- The input w begins with a line of n entries, which stand in front of xs.
-pub record Opened (w xs : List ℕ) (n : ℕ) : Type 0 where
-  pub is : split w ≡ some (record { schedule = take n xs; script = drop (n + 1) w })
-  pub few : n ≤ 4096
-  pub held : n ≤ length xs
-  pub inside : n < length w
+-- ---- the line
+-- Of the schedule line l the first i bytes are entries, which stand in front of xs.
+pub record Scheduling (l xs : List ℕ) (i : ℕ) : Type 0 where
+  pub passed : i ≤ length l
+  pub short : length l ≤ longest
+  pub read : Reading (schedule l) (schedule (drop i l)) xs i
 
--- what the reader of the line answers, with xs for the numbers
-unfoldable pub LineOf : List ℕ → List ℕ → Line → Type 0
-LineOf w xs (Entries n) = Opened w xs n
-LineOf w xs Bad = played w ≡ refused 2
+pub schedule-starts : (l xs : List ℕ) → length l ≤ longest → length xs ≡ longest → Scheduling l xs 0
+schedule-starts l xs h z = record { passed = omega arith; short = h; read = read-starts (schedule l) xs z }
 
-pub line-opened : (w xs : List ℕ) (r : Line) (n : ℕ) → LineOf w xs r → r ≡ Entries n → Opened w xs n
-unfolding LineOf
-line-opened w xs r n h e = rw e at h
+-- the first byte
+module _ (b : ℕ) (l : List ℕ) where
+  schedule-low : b < 48 → schedule (b ∷ l) ≡ none
+  unfolding schedule if_then_else_
+  schedule-low h = rw (lt-leb 48 b h, schedule)
 
-pub line-bad : (w xs : List ℕ) (r : Line) → LineOf w xs r → r ≡ Bad → played w ≡ refused 2
-unfolding LineOf
-line-bad w xs r h e = rw e at h
+  schedule-high : 48 ≤ b → 51 < b → schedule (b ∷ l) ≡ none
+  unfolding schedule if_then_else_
+  schedule-high h k = rw (le-leb 48 b h, lt-leb b 51 k, schedule)
 
--- entries before those of an input
-unfoldable pub after : List ℕ → Option Input → Option Input
-after xs none = none
-after xs (some i) = some (record { schedule = xs ++ i .schedule; script = i .script })
+  schedule-more : 48 ≤ b → b ≤ 51 → schedule (b ∷ l) ≡ entry b (schedule l)
+  unfolding schedule if_then_else_
+  schedule-more h k = rw (le-leb 48 b h, le-leb b 51 k, schedule)
 
--- The first i bytes of w are entries, which stand in front of xs.
-pub record Reading (w xs : List ℕ) (i : ℕ) : Type 0 where
-  pub size : length xs ≡ 4096
-  pub passed : i ≤ length w
-  pub few : i ≤ 4096
-  pub left : split w ≡ after (take i xs) (split (drop i w))
+module _ (l xs : List ℕ) (i : ℕ) (g : Scheduling l xs i) where
+  pub schedule-ends : length l ≤ i → EntriesOf (schedule l) xs (Read i)
+  unfolding schedule
+  schedule-ends h =
+      let z : i ≡ length l = omega (arith, g .passed) in
+      let d : drop i l ≡ [] = rw z (drop-length l) in
+      read-ends (schedule l) (schedule (drop i l)) xs i (g .read) (ap schedule d)
 
-pub line-starts : (w xs : List ℕ) → length xs ≡ 4096 → Reading w xs 0
-unfolding after
-line-starts w xs z = record { size = z; passed = omega arith; few = omega arith; left = go (split w) }
+  module _ (h : i < length l) where
+    pub schedule-under : getD l i 0 < 48 → EntriesOf (schedule l) xs Bad
+    schedule-under k = read-fails (schedule l) (schedule (drop i l)) xs i (g .read) (ap schedule (first-byte l i h) ∙ schedule-low (getD l i 0) (drop (i + 1) l) k)
+
+    module _ (k : 48 ≤ getD l i 0) where
+      pub schedule-over : 51 < getD l i 0 → EntriesOf (schedule l) xs Bad
+      schedule-over m = read-fails (schedule l) (schedule (drop i l)) xs i (g .read) (ap schedule (first-byte l i h) ∙ schedule-high (getD l i 0) (drop (i + 1) l) k m)
+
+      pub schedule-goes : getD l i 0 ≤ 51 → Scheduling l (set xs i (getD l i 0 - 48)) (i + 1)
+      schedule-goes m = record {
+        passed = omega arith;
+        short = g .short;
+        read =
+            read-goes (schedule l) (schedule (drop i l)) xs i (g .read) (getD l i 0) (schedule (drop (i + 1) l))
+            (ap schedule (first-byte l i h) ∙ schedule-more (getD l i 0) (drop (i + 1) l) k m) (omega (arith, g .short));
+      }
+
+pub ruleset reading = (needs, schedule-starts, schedule-ends, schedule-under, schedule-over, schedule-goes)
+
+-- ---- what is left to do of a state
+unfoldable pub ran : List ℕ → State → Result Bytes
+ran es σ = listed (run σ es .state)
+
+-- with nothing in front a listing is as it is
+unheaded : (R : Result Bytes) → (R >>= λ l. done ([] ++ l)) ≡ R
+unheaded (done l) = refl
+unheaded (refused n) = refl
+
+-- the words that a run leaves are listed as the state that it leaves
+run-is : (w es : List ℕ) → ofWords (ran es) w ≡ ofWords (headed []) (runCall w es .buffer)
+unfolding ofWords ran headed
+run-is w es = go (lent w) refl
   where
-    go : (o : Option Input) → o ≡ after [] o
-    go none = refl
-    go (some i) = refl
+    go : (s : Result State) → lent w ≡ s → (lent w >>= λ σ. listed (run σ es .state)) ≡ (lent (runCall w es .buffer) >>= λ σ. (listed σ >>= λ l. done ([] ++ l)))
+    go (refused n) e = rw (ap (λ R. R .buffer) (run-unlent w es n e), e)
+    go (done σ) e =
+        let q = state-lent w σ e in
+        let t = drop stateWords w in
+        let b : runCall w es .buffer ≡ encode (run σ es .state) ++ t = ap (λ x. runCall x es .buffer) (q .1) ∙ ap (λ R. R .buffer) (run-leaves σ t es (q .0)) in
+        rw (e, b, lent-state (run σ es .state) t (run-keeps σ es (q .0)), unheaded (listed (run σ es .state)))
 
--- ---- the first byte
-module _ (b : ℕ) (w : List ℕ) where
-  split-end : b ≡ 10 → split (b ∷ w) ≡ some (record { schedule = []; script = w })
-  unfolding split
-  split-end e = rw (eq-eqb b 10 e, split)
+module _ (old : List ℕ) (r : ℕ) (new : List ℕ) where
+  pub run-shows : (w es mid : List ℕ) → mid ≡ runCall w es .buffer → Written (shown (ofWords (headed []) mid)) old r new → Written (shown (ofWords (ran es) w)) old r new
+  run-shows w es mid d g = result-same (ofWords (ran es) w) (ofWords (headed []) mid) old r new (run-is w es ∙ ap (ofWords (headed [])) (sym d)) g
 
-  module _ (n : b ≡ 10 → ⊥) where
-    split-low : b < 48 → split (b ∷ w) ≡ none
-    unfolding split
-    split-low l = rw (ne-eqb b 10 n, lt-leb 48 b l, split)
+  -- ---- what is left to do of an input
+  module _ (w : List ℕ) where
+    pub line-stops : (a : Line) → LineOf w a → a ≡ Unended → Written (shown (refused 2)) old r new → Written (loops w) old r new
+    unfolding loops played orRefuse
+    line-stops a l e g = written-same (loops w) (shown (refused 2)) old r new (rw (line-none w a l e)) g
 
-    split-high : 48 ≤ b → 51 < b → split (b ∷ w) ≡ none
-    unfolding split
-    split-high l h = rw (ne-eqb b 10 n, le-leb 48 b l, lt-leb b 51 h, split)
+    module _ (n : ℕ) (o : Opened w n) (xs : List ℕ) (a : Entries) (l : EntriesOf (schedule (take n w)) xs a) where
+      pub schedule-stops : a ≡ Bad → Written (shown (refused 2)) old r new → Written (loops w) old r new
+      unfolding loops played orRefuse
+      schedule-stops e g = written-same (loops w) (shown (refused 2)) old r new (rw (o .is, entries-none (schedule (take n w)) xs a l e)) g
 
-    split-more : 48 ≤ b → b ≤ 51 → split (b ∷ w) ≡ entry b (split w)
-    unfolding split
-    split-more l h = rw (ne-eqb b 10 n, le-leb 48 b l, le-leb b 51 h, split)
+      pub schedule-shows : (k : ℕ) → a ≡ Read k → Written (shown (ofText (ran (take k xs)) (take (length w - (n + 1)) (drop (n + 1) w)))) old r new → Written (loops w) old r new
+      unfolding loops played orRefuse ofText ran
+      schedule-shows k e g =
+          let q = entries-held (schedule (take n w)) xs a k l e in
+          written-same (loops w) (shown (ofText (ran (take k xs)) (take (length w - (n + 1)) (drop (n + 1) w)))) old r new (rw (o .is, q .is, script-lent w n)) g
 
--- ---- refusals
-bad-none : (w : List ℕ) → split w ≡ none → played w ≡ refused 2
-unfolding played orRefuse
-bad-none w e = rw e
-
-bad-long : (w : List ℕ) (o : Option Input) → split w ≡ o → ((i : Input) → o ≡ some i → 4096 < length (i .schedule)) → played w ≡ refused 2
-unfolding played orRefuse require
-bad-long w none e h = rw e
-bad-long w (some i) e h = rw (e, lt-leb (length (i .schedule)) 4096 (h i refl))
-
-module _ (w xs : List ℕ) (i : ℕ) (g : Reading w xs i) where
-  pub line-none : length w ≤ i → LineOf w xs Bad
-  unfolding LineOf split after
-  line-none h =
-      let z : i ≡ length w = omega (arith, g .passed) in
-      let d : drop i w ≡ [] = rw z (drop-length w) in
-      bad-none w (g .left ∙ rw d)
-
-  module _ (h : i < length w) where
-    front : drop i w ≡ getD w i 0 ∷ drop (i + 1) w
-    front = rw (add-one, drop-cons w i 0)
-
-    pub line-ends : getD w i 0 ≡ 10 → LineOf w xs (Entries i)
-    unfolding LineOf after
-    line-ends e = record {
-      is = g .left ∙ rw (front, split-end (getD w i 0) (drop (i + 1) w) e, append-nil (take i xs));
-      few = g .few;
-      held = omega (arith, g .few, g .size);
-      inside = h;
-    }
-
-    module _ (n : getD w i 0 ≡ 10 → ⊥) where
-      pub line-low : getD w i 0 < 48 → LineOf w xs Bad
-      unfolding LineOf after
-      line-low l = bad-none w (g .left ∙ rw (front, split-low (getD w i 0) (drop (i + 1) w) n l))
-
-      module _ (l : 48 ≤ getD w i 0) where
-        pub line-high : 51 < getD w i 0 → LineOf w xs Bad
-        unfolding LineOf after
-        line-high k = bad-none w (g .left ∙ rw (front, split-high (getD w i 0) (drop (i + 1) w) n l k))
-
-        module _ (k : getD w i 0 ≤ 51) where
-          more : split w ≡ after (take i xs) (entry (getD w i 0) (split (drop (i + 1) w)))
-          more = g .left ∙ ap (after (take i xs)) (ap split front ∙ split-more (getD w i 0) (drop (i + 1) w) n l k)
-
-          pub line-long : 4096 ≤ i → LineOf w xs Bad
-          unfolding LineOf after entry
-          line-long m = bad-long w (after (take i xs) (entry (getD w i 0) (split (drop (i + 1) w)))) more (go (split (drop (i + 1) w)))
-            where
-              go : (o : Option Input) (j : Input) → after (take i xs) (entry (getD w i 0) o) ≡ some j → 4096 < length (j .schedule)
-              go none j e = absurd (none-some e)
-              go (some q) j e =
-                  let s = take i xs in
-                  let t = (getD w i 0 - 48) ∷ q .schedule in
-                  let d : record { schedule = s ++ t; script = q .script } ≡ j = cc in
-                  omega (arith, ap (λ x. length (x .schedule)) d, length-append s t, length-take i xs, g .size)
-
-          pub line-goes : i < 4096 → Reading w (set xs i (getD w i 0 - 48)) (i + 1)
-          unfolding after entry
-          line-goes m = record {
-            size = length-set xs i (getD w i 0 - 48) ∙ g .size;
-            passed = omega arith;
-            few = omega arith;
-            left = more ∙ go (split (drop (i + 1) w)) ∙ ap (λ t. after t (split (drop (i + 1) w))) (sym (rw add-one (take-suc-set xs i (getD w i 0 - 48) (omega (arith, g .size)))));
-          }
-            where
-              go : (o : Option Input) → after (take i xs) (entry (getD w i 0) o) ≡ after (take i xs ++ ((getD w i 0 - 48) ∷ [])) o
-              go none = refl
-              go (some j) = ap (λ t. some (record { schedule = t; script = j .script })) (sym (append-assoc (take i xs) ((getD w i 0 - 48) ∷ []) (j .schedule)))
-
-pub ruleset laws = (needs, length-take-le, line-starts, line-none, line-ends, line-low, line-high, line-long, line-goes)
+pub ruleset laws = (needs, length-take-le, line-opened, line-length, line-short, entries-few, entries-inside, run-shows, start-shows, start-stops, line-stops, schedule-stops, schedule-shows)

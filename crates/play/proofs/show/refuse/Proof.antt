@@ -1,7 +1,7 @@
 -- `refuse` meets its contract. Assumes nothing.
-use Rattle.play.specs.Playing.{laws}
-use Rattle.play.proofs.refuse.Statement.{statement}
-use Rattle.play.proofs.refuse.Tie as tie
+use Rattle.play.specs.Written.{laws}
+use Rattle.play.proofs.show.refuse.Statement.{statement}
+use Rattle.play.proofs.show.refuse.Tie as tie
 
 pub refuse-spec : {M : Type 1} → statement M
 refuse-spec =

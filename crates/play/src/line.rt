@@ -1,0 +1,34 @@
+// The line that an input begins with.
+ghost use Rattle.play.specs.Lines.{LineOf};
+
+// No program looks at a longer line. A line has no more entries.
+pub const LONGEST: usize = 4096;
+
+// Where the first line ends: in front of the byte 10 at this place, or nowhere that is looked at.
+pub enum Line {
+    Ends(usize),
+    Unended,
+}
+
+// What a line says: so many entries, or nothing that has a meaning.
+pub enum Entries {
+    Read(usize),
+    Bad,
+}
+
+// Looks for the end of the line that `input` begins with. Nothing is read behind the longest line.
+pub fn first_line(input: &[u8]) -> Line
+    ensures { λ r. ⌜ LineOf (now (input .entry)) r ⌝ }
+{
+    let mut i = 0;
+    while i < input.len() {
+        if input[i] == b'\n' {
+            return Line::Ends(i);
+        }
+        if LONGEST <= i {
+            return Line::Unended;
+        }
+        i += 1;
+    }
+    Line::Unended
+}
