@@ -7,5 +7,9 @@ pub mod Written
 pub mod Listings
 -- `loops`: the schedule line, and the run behind it
 pub mod Schedules
+-- `replay`: the line of calls, and the calls behind it
+pub mod Tokens
+pub mod Calls
+pub mod Replays
 -- how much of an input decides
 pub mod Inputs

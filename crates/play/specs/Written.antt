@@ -1,4 +1,4 @@
--- What a program writes: bytes in front of a buffer, and no other byte of it changes. The line of a refusal.
+-- What a program writes: bytes in front of a buffer, and no other byte of it changes. The line of a refusal, and that of a bad token.
 -- Assumes nothing.
 use Prim.Native.Nat.{ℕ, _+_, _≤_}
 use mathlib.Core.Path.{_≡_, sym, ap, _∙_, subst as transp}
@@ -11,6 +11,7 @@ use Rattle.atlite.specs.Base.{Result, refused, bytes}
 use Rattle.atlite.specs.Lexicon.{Bytes}
 use Rattle.atlite.specs.Printer.{printNumber}
 use Rattle.atlite.specs.Program.{shown}
+use Rattle.atlite.specs.Replay.{badToken}
 use Rattle.lister.specs.Bounds.{number-bound}
 use Rattle.showing.specs.Writing.{most, Wrote, wrote-two}
 use Rattle.play.specs.Limits.{listingRoom}
@@ -47,4 +48,9 @@ refusal-written old h c n z m₁ m₂ new a b r p q s =
     let w = front-written t old new r (omega arith) (omega arith) (wrote-two old 0 (x ++ printNumber n) y m₂ new b r (wrote-two old 0 x (printNumber n) m₁ m₂ a b p q) s) in
     transp (λ k. Written (shown (refused k)) old r new) z w
 
-pub ruleset laws = (needs, refusal-written)
+pub token-written : (old : List ℕ) → listingRoom ≤ length old → (new : List ℕ) (r : ℕ)
+    → Wrote old 0 (40 ∷ 98 ∷ 97 ∷ 100 ∷ 32 ∷ 116 ∷ 111 ∷ 107 ∷ 101 ∷ 110 ∷ 41 ∷ 10 ∷ []) new r → Written badToken old r new
+unfolding badToken bytes
+token-written old h new r g = front-written (bytes "(bad token)\n") old new r (omega arith) (omega arith) g
+
+pub ruleset laws = (needs, refusal-written, token-written)

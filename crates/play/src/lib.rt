@@ -1,10 +1,15 @@
-// What the program `loops` writes for its input, as a function on slices.
+// What the programs `loops` and `replay` write for their input, as functions on slices.
 //
 // An input is a line and a script. The line is judged first, so that its refusal comes before any of the script. What follows is a chain of
-// the engine's calls, each of which can refuse; a refusal is written as its number.
+// the engine's calls, each of which can refuse; a refusal is written as its number. The two programs differ in what the line says and in what
+// is done with the state: a run, or calls one after another with an answer for each.
+mod answers;
+mod calls;
 mod line;
 mod schedule;
 mod show;
 mod start;
 
+pub use calls::ROOM;
+pub use calls::replay;
 pub use schedule::play;

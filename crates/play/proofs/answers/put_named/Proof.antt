@@ -1,0 +1,13 @@
+-- `put_named` meets its contract. Assumes nothing.
+use Rattle.play.specs.Calls.{answering}
+use Rattle.play.proofs.answers.put_named.Statement.{statement}
+use Rattle.play.proofs.answers.put_named.Tie as tie
+
+pub put-named-spec : {M : Type 1} → statement M
+put-named-spec =
+    tie.close (tie.spec (λ c κs. search answering)  -- wide-requires
+    (λ c κs. search answering)  -- put-requires
+    (λ c κs. search answering)  -- put-number-requires
+    (λ c. search answering)  -- same-length
+    (λ c. search answering)  -- returns
+    )
