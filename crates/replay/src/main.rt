@@ -1,0 +1,23 @@
+// Reads a line of calls and a script from standard input, and writes the answer to each call and the listing of the state that the calls
+// leave, or the line of what refuses the input. Where standard input fails to be read it writes `(unread)` and nothing else, since a part of
+// a script can be a script as well.
+//
+// The longest input that is not refused has 8,193 bytes. One byte more is read and no further: what is written for the whole input is what is
+// written for its first 8,194 bytes (`replay-take` of crate `play`).
+use input::Input;
+
+// Replays an input, and writes what comes of it.
+fn answer(bytes: &[u8]) {
+    let mut out = [0u8; play::ROOM];
+    let k = play::replay(bytes, &mut out);
+    io::write_all(1, &out[..k]);
+}
+
+fn main() {
+    let mut bytes = [0u8; 8194];
+    let r = input::read_all(0, &mut bytes);
+    match r {
+        Input::Bytes(n) => answer(&bytes[..n]),
+        Input::Unread => input::tell_unread(),
+    }
+}
