@@ -13,7 +13,7 @@ use Rattle.vectors.proofs.+go_through.{statement}
 use Rattle.vectors.proofs.+go_through.Tie.{close}
 
 abbrev μ-go-through : Measures 0 go-through-kinds.ps ℕ
-μ-go-through κs a = a .1 .0
+μ-go-through κs a = a .1 .1 .0
 
 abbrev go-through-at : ℕ → In 0 go-through-kinds.ps
 go-through-at t =

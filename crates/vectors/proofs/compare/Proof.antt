@@ -10,10 +10,9 @@ compare-spec =
     (tie.spec
     (λ c. search needs)  -- returns
     (λ c. search needs)  -- returns-2
-    (λ c κs. search needs)  -- large-buffer-requires
-    (λ c. search (needs, length-take-le))  -- slice-aggregate-play
-    (λ c. search (needs, length-take-le))  -- slice-aggregate-play-2
-    (λ c κs. search needs)  -- play-requires
+    (λ c. search (needs, length-take-le))  -- slice-aggregate-play-input
+    (λ c. search needs)  -- slice-aggregate-play-input-2
+    (λ c κs. search needs)  -- play-input-requires
     (λ c. search needs)  -- array-share-prefix-out
     (λ c. search (needs, length-take-le))  -- slice-aggregate-same
     (λ c. search (needs, length-take-le))  -- slice-aggregate-same-2
