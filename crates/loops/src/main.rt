@@ -14,7 +14,7 @@ fn answer(bytes: &[u8]) {
 }
 
 fn main() {
-    let mut bytes = [0u8; 8194];
+    let mut bytes = [0u8; play::INPUT];
     let r = input::read_all(0, &mut bytes);
     match r {
         Input::Bytes(n) => answer(&bytes[..n]),

@@ -12,4 +12,5 @@ mod start;
 
 pub use calls::ROOM;
 pub use calls::replay;
+pub use line::INPUT;
 pub use schedule::play;

@@ -4,6 +4,12 @@ ghost use Rattle.play.specs.Lines.{LineOf};
 // No program looks at a longer line. A line has no more entries.
 pub const LONGEST: usize = 4096;
 
+// A script that has more bytes is refused, whatever they are.
+const SCRIPT: usize = 4096;
+
+// The bytes of an input that decide: one more than a line, its end and a script have.
+pub const INPUT: usize = LONGEST + 1 + SCRIPT + 1;
+
 // Where the first line ends: in front of the byte 10 at this place, or nowhere that is looked at.
 pub enum Line {
     Ends(usize),

@@ -92,7 +92,7 @@ fn fill(fd: i32, buffer: &mut [u8], n: usize) -> bool {
 fn play_next(program: Program, fd: i32, head: &[u8; 12]) -> Came {
     let n = five_digits(head, 0);
     let m = five_digits(head, 6);
-    let mut input = [0u8; 8194];
+    let mut input = [0u8; play::INPUT];
     let mut stored = io::large_buffer();
     if fill(fd, &mut input, n) {
         if fill(fd, &mut stored, m) {
