@@ -83,10 +83,15 @@ unfoldable pub told : Option (List ℕ) → Bytes → Bytes
 told none t = badToken
 told (some es) t = shown (replayed es t)
 
+-- an input with no line, or with one that is too long, has no calls either
+unfoldable pub toldOf : Option Input → Bytes
+toldOf none = badToken
+toldOf (some i) = told (calls (tokens (i .line))) (i .script)
+
 unfoldable pub replay : Bytes → Bytes
-replay w = elim (short (split w)) [ none ↦ badToken | some i ↦ told (calls (tokens (i .line))) (i .script) ]
+replay w = toldOf (short (split w))
 
 -- every definition that `replay` goes through, opened together
 unfoldable pub All : Unit {0}
-unfolding Loops.All before between tokens digits token calls answerText after callFrom called replayed badToken told replay
+unfolding Loops.All before between tokens digits token calls answerText after callFrom called replayed badToken told toldOf replay
 All = tt

@@ -8,6 +8,9 @@ use Rattle.atlite.specs.Facts.{refused-done}
 pub done-same : {A : Type 0} (a b : A) → done a ≡ done b → a ≡ b
 done-same a b e = cc
 
+pub refused-same : {A : Type 0} (m n : ℕ) → _≡_ {A = Result A} (refused m) (refused n) → m ≡ n
+refused-same m n e = cc
+
 pub bind-done : {A B : Type 0} (r : Result A) (f : A → Result B) (b : B) → (r >>= f) ≡ done b → (a : A) × (r ≡ done a) × (f a ≡ done b)
 bind-done (done a) f b e = (a, refl, e)
 bind-done (refused n) f b e = absurd (refused-done e)

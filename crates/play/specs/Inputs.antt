@@ -16,9 +16,8 @@ use Rattle.atlite.specs.Table.{read}
 use Rattle.atlite.specs.Run.{run}
 use Rattle.atlite.specs.Program.{Input, longer, split, short, started, listed, shown}
 use Rattle.atlite.specs.Loops.{schedule, played, loops}
-use Rattle.atlite.specs.Replay.{tokens, calls, replayed, told, replay}
+use Rattle.atlite.specs.Replay.{tokens, calls, replayed, told, toldOf, replay}
 use Rattle.play.specs.Limits.{longest, scriptMost, inputRoom}
-use Rattle.play.specs.Replays.{toldOf, replay-is}
 
 -- what is left of an input that is cut off behind k bytes: its line, if that ends before
 abbrev kept : ℕ → Input → Input
@@ -120,8 +119,8 @@ loops-take w = ap shown (go (short (split (take inputRoom w))) (short (split w))
     go o p (both i j e d) = rw (e, d)
 
 pub replay-take : (w : List ℕ) → replay (take inputRoom w) ≡ replay w
-unfolding toldOf told replayed
-replay-take w = replay-is (take inputRoom w) (short (split (take inputRoom w))) refl ∙ go (short (split (take inputRoom w))) (short (split w)) (input-take w) ∙ sym (replay-is w (short (split w)) refl)
+unfolding replay toldOf told replayed
+replay-take w = go (short (split (take inputRoom w))) (short (split w)) (input-take w)
   where
     same : (t u : Bytes) → started t ≡ started u → (o : Option (List ℕ)) → told o t ≡ told o u
     same t u d none = refl

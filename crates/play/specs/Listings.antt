@@ -20,10 +20,10 @@ use Rattle.atlite.specs.Answers.{listAnswer}
 use Rattle.atlite.specs.declared.Listed.{Listed}
 use Rattle.atlite.specs.declared.Listed.the-variants as S
 use Rattle.layout.specs.Meaning.{answered, room, lent, listCall}
-use Rattle.layout.specs.Results.{done-same, bind-done, then-done, require-done}
+use Rattle.layout.specs.Results.{done-same, refused-same, bind-done, then-done, require-done}
 use Rattle.showing.specs.Writing.{Wrote}
 use Rattle.play.specs.Limits.{listingRoom, answersRoom}
-use Rattle.play.specs.Starts.{ofWords, refused-same}
+use Rattle.play.specs.Starts.{ofWords}
 use Rattle.play.specs.Written.{Written, result-same}
 
 -- a state's listing behind the bytes h

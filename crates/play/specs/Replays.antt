@@ -2,7 +2,6 @@
 use Prim.Native.Nat.{ℕ, _+_, _-_, _≤_}
 use mathlib.Core.Path.{_≡_, refl, sym, ap, _∙_}
 use mathlib.Core.List.{List, [], _∷_, _++_, append-assoc}
-use mathlib.Core.Option.{Option, none, some}
 use native.Mathlib.Omega.{arith}
 use borrow.Author.Needs.{needs}
 use lib.ListN.{length, take, drop, length-take}
@@ -11,8 +10,8 @@ use Rattle.atlite.specs.Base.{Result, done, refused, _>>=_}
 use Rattle.atlite.specs.Lexicon.{Bytes}
 use Rattle.atlite.specs.State.{State}
 use Rattle.atlite.specs.Printer.{printItems}
-use Rattle.atlite.specs.Program.{Input, split, short, listed, shown}
-use Rattle.atlite.specs.Replay.{tokens, calls, called, replayed, badToken, told, replay}
+use Rattle.atlite.specs.Program.{listed, shown}
+use Rattle.atlite.specs.Replay.{tokens, calls, called, replayed, badToken, told, toldOf, replay}
 use Rattle.play.specs.declared.line.Line.{Line}
 use Rattle.play.specs.declared.line.Line.the-variants.{Unended}
 use Rattle.play.specs.declared.line.Entries.{Entries}
@@ -37,16 +36,6 @@ module _ (k : ℕ) (text : List ℕ) (h : k ≤ answersRoom) where
   pub answers-fit : (old : List ℕ) → replayRoom ≤ length old → length (take k text) + listingRoom ≤ length old
   answers-fit old l = omega (arith, length-take k text)
 
--- what is left to do of an input
-unfoldable pub toldOf : Option Input → Bytes
-toldOf none = badToken
-toldOf (some i) = told (calls (tokens (i .line))) (i .script)
-
-pub replay-is : (w : List ℕ) (o : Option Input) → short (split w) ≡ o → replay w ≡ toldOf o
-unfolding replay toldOf
-replay-is w none e = rw (e, replay)
-replay-is w (some i) e = rw (e, replay)
-
 module _ (old : List ℕ) (r : ℕ) (new : List ℕ) where
   pub calls-show : (w es w′ : List ℕ) (k : ℕ) (text : List ℕ) → Lined w es w′ k text → Written (shown (ofWords (headed (take k text)) w′)) old r new → Written (shown (ofWords (replayFrom es) w)) old r new
   unfolding ofWords headed replayFrom
@@ -64,18 +53,18 @@ module _ (old : List ℕ) (r : ℕ) (new : List ℕ) where
 
   module _ (w : List ℕ) where
     pub line-stops : (a : Line) → LineOf w a → a ≡ Unended → Written badToken old r new → Written (replay w) old r new
-    unfolding toldOf
-    line-stops a l e g = written-same (replay w) badToken old r new (replay-is w none (line-none w a l e)) g
+    unfolding replay toldOf
+    line-stops a l e g = written-same (replay w) badToken old r new (rw (line-none w a l e)) g
 
     module _ (n : ℕ) (o : Opened w n) (xs : List ℕ) (a : Entries) (l : EntriesOf (calls (tokens (take n w))) xs a) where
       pub token-stops : a ≡ Bad → Written badToken old r new → Written (replay w) old r new
-      unfolding toldOf told
-      token-stops e g = written-same (replay w) badToken old r new (replay-is w _ (o .is) ∙ rw (entries-none (calls (tokens (take n w))) xs a l e)) g
+      unfolding replay toldOf told
+      token-stops e g = written-same (replay w) badToken old r new (ap toldOf (o .is) ∙ rw (entries-none (calls (tokens (take n w))) xs a l e)) g
 
       pub token-shows : (k : ℕ) → a ≡ Read k → Written (shown (ofText (replayFrom (take k xs)) (take (length w - (n + 1)) (drop (n + 1) w)))) old r new → Written (replay w) old r new
-      unfolding toldOf told replayed ofText replayFrom
+      unfolding replay toldOf told replayed ofText replayFrom
       token-shows k e g =
           let q = entries-held (calls (tokens (take n w))) xs a k l e in
-          written-same (replay w) (shown (ofText (replayFrom (take k xs)) (take (length w - (n + 1)) (drop (n + 1) w)))) old r new (replay-is w _ (o .is) ∙ rw (q .is, script-lent w n)) g
+          written-same (replay w) (shown (ofText (replayFrom (take k xs)) (take (length w - (n + 1)) (drop (n + 1) w)))) old r new (ap toldOf (o .is) ∙ rw (q .is, script-lent w n)) g
 
 pub ruleset laws = (needs, length-take-le, line-opened, line-length, line-short, entries-few, entries-inside, entries-short, answers-short, answers-fit, start-holds, calls-show, start-shows, start-stops, line-stops, token-stops, token-shows)

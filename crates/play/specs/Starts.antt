@@ -26,6 +26,7 @@ use Rattle.layout.specs.TableLaws.{table-of}
 use Rattle.layout.specs.Meaning.{answered, tableIn, lent, readCall, loadCall}
 use Rattle.layout.specs.MeaningLaws.{lent-state, read-done, read-length}
 use Rattle.layout.specs.Outcomes.{room-enough}
+use Rattle.layout.specs.Results.{refused-same}
 use Rattle.play.specs.Written.{Written, result-same}
 
 -- ---- what is left to do
@@ -47,9 +48,6 @@ Starts t L.Done w = (σ : State) × (started t ≡ done σ) × (lent w ≡ done 
 Starts t (L.Refused n) w = started t ≡ refused n
 
 -- ---- the ways to return
-pub refused-same : {A : Type 0} (m n : ℕ) → _≡_ {A = Result A} (refused m) (refused n) → m ≡ n
-refused-same m n e = cc
-
 -- an answer that says nothing, with the words to write
 abbrev silent : List ℕ → Unit {0} × List ℕ
 silent w = (tt, w)
