@@ -10,6 +10,7 @@ use Rattle.atlite.specs.Base.{Result, done, refused, _>>=_, bytes}
 use Rattle.atlite.specs.Lexicon.{Bytes}
 use Rattle.atlite.specs.State.{State}
 use Rattle.atlite.specs.Move.{move}
+use Rattle.atlite.specs.Keywords.{operators}
 use Rattle.atlite.specs.Table.{read}
 use Rattle.atlite.specs.Load.{load}
 use Rattle.atlite.specs.Run.{run}
@@ -45,7 +46,7 @@ shownFrom (refused n) es = record { cause = n; final = [] }
 shownFrom (done σ) es = record { cause = lastCause σ es; final = listing (run σ es .state) }
 
 unfoldable pub computed : Example → Shown
-computed k = shownFrom (read (bytes (k .script)) >>= load) (entries (bytes (k .schedule)))
+computed k = shownFrom (read operators (bytes (k .script)) >>= load) (entries (bytes (k .schedule)))
 
 unfoldable pub stated : Example → Shown
 stated k = record { cause = k .cause; final = bytes (k .final) }

@@ -8,6 +8,7 @@ use lib.ListN.{length}
 use lib.Dec.{eqb, leb}
 use Rattle.atlite.specs.Base.{if_then_else_, bytes, sameBytes, all}
 use Rattle.atlite.specs.Term.{apply, firstWord}
+use Rattle.atlite.specs.Keywords.{opWord, srcWord, printKind, operators, spelling, reserved}
 
 abbrev pub Bytes : Type 0
 Bytes = List ℕ
@@ -41,12 +42,6 @@ letterFirst (b ∷ w) = isLetter b
 unfoldable pub among : List Bytes → Bytes → Bool
 among [] w = false
 among (v ∷ vs) w = sameBytes v w || among vs w
-
-unfoldable pub reserved : List Bytes
-reserved =
-    bytes "plus" ∷ bytes "percent" ∷ bytes "get" ∷ bytes "set" ∷ bytes "call" ∷ bytes "send" ∷ bytes "ask" ∷ bytes "let"
-    ∷ bytes "future" ∷ bytes "fn" ∷ bytes "resolve" ∷ bytes "when" ∷ bytes "seq" ∷ bytes "object" ∷ bytes "isolate"
-    ∷ bytes "actor" ∷ bytes "null" ∷ bytes "this" ∷ bytes "def" ∷ bytes "field" ∷ bytes "method" ∷ []
 
 unfoldable pub isWord : Bytes → Bool
 isWord w = letterFirst w && all inWord w && leb (length w) 12 && not (among reserved w)
@@ -92,5 +87,5 @@ unfoldable pub numberOf : List Bytes → Bytes → Option ℕ
 numberOf ws w = if sameBytes w (bytes "apply") then some apply else place firstWord ws w
 
 unfoldable pub Lexicon : Unit {0}
-unfolding isLetter isDigit inWord letterFirst among reserved isWord decimal isNumber noted wordsFrom wordsOf withoutApply dictionary place numberOf
+unfolding opWord srcWord printKind operators spelling reserved isLetter isDigit inWord letterFirst among isWord decimal isNumber noted wordsFrom wordsOf withoutApply dictionary place numberOf
 Lexicon = tt

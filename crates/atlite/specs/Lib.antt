@@ -1,8 +1,9 @@
 -- what everything rests on
 pub mod Base
 -- script text
-pub mod Lexicon
 pub mod Script
+pub mod Keywords
+pub mod Lexicon
 pub mod Printer
 pub mod Scope
 pub mod Reader

@@ -7,14 +7,15 @@ use Rattle.atlite.specs.Base.{bytes}
 use Rattle.atlite.specs.Term.{Series, made, copied, Value, null, num, ref, Term, val, var, op, letIn, future, literal, Terms, nil, cons, Inits, noField, field, Methods, noMethod, method}
 use Rattle.atlite.specs.State.{Message, message, Field, Tag, O, I, Entity, object, resolver, Actor, State}
 use Rattle.atlite.specs.Lexicon.{Bytes}
-use Rattle.atlite.specs.Printer.{Printer, printNumber, printWord, printKind, printName, opWord, opNames, placed, form}
+use Rattle.atlite.specs.Printer.{Printer, printNumber, printWord, printName, opNames, placed, form}
+use Rattle.atlite.specs.Keywords.{opWord, printKind, letWord, futureWord, nullWord, fieldWord, methodWord}
 
 unfoldable pub printSeries : Series → Bytes
 printSeries made = bytes "m"
 printSeries copied = bytes "c"
 
 unfoldable pub printValue : Value → Bytes
-printValue null = bytes "null"
+printValue null = nullWord
 printValue (num n) = printNumber n
 printValue (ref a s n) = form (bytes "ref" ∷ printNumber a ∷ printSeries s ∷ printNumber n ∷ [])
 
@@ -23,8 +24,8 @@ unfoldable mutual
   printTerm ws (val v) = printValue v
   printTerm ws (var x) = printWord ws x
   printTerm ws (op o es) = form (opWord o ∷ placed (opNames ws o) (printTerms ws es))
-  printTerm ws (letIn x e d) = form (bytes "let" ∷ printWord ws x ∷ printTerm ws e ∷ printTerm ws d ∷ [])
-  printTerm ws (future x y e) = form (bytes "future" ∷ printWord ws x ∷ printWord ws y ∷ printTerm ws e ∷ [])
+  printTerm ws (letIn x e d) = form (letWord ∷ printWord ws x ∷ printTerm ws e ∷ printTerm ws d ∷ [])
+  printTerm ws (future x y e) = form (futureWord ∷ printWord ws x ∷ printWord ws y ∷ printTerm ws e ∷ [])
   printTerm ws (literal k fs ms) = form (printKind k ∷ (printInits ws fs ++ printMethods ws ms))
 
   pub printTerms : List Bytes → Terms → List Bytes
@@ -33,14 +34,14 @@ unfoldable mutual
 
   pub printInits : List Bytes → Inits → List Bytes
   printInits ws noField = []
-  printInits ws (field f e fs) = form (bytes "field" ∷ printWord ws f ∷ printTerm ws e ∷ []) ∷ printInits ws fs
+  printInits ws (field f e fs) = form (fieldWord ∷ printWord ws f ∷ printTerm ws e ∷ []) ∷ printInits ws fs
 
   pub printMethods : List Bytes → Methods → List Bytes
   printMethods ws noMethod = []
-  printMethods ws (method m xs e ms) = form (bytes "method" ∷ printWord ws m ∷ form (map (printWord ws) xs) ∷ printTerm ws e ∷ []) ∷ printMethods ws ms
+  printMethods ws (method m xs e ms) = form (methodWord ∷ printWord ws m ∷ form (map (printWord ws) xs) ∷ printTerm ws e ∷ []) ∷ printMethods ws ms
 
 unfoldable pub printField : List Bytes → Field → Bytes
-printField ws (Field.field f v) = form (bytes "field" ∷ printWord ws f ∷ printValue v ∷ [])
+printField ws (Field.field f v) = form (fieldWord ∷ printWord ws f ∷ printValue v ∷ [])
 
 unfoldable pub printMessage : List Bytes → Message → Bytes
 printMessage ws (message v m vs) = form (bytes "message" ∷ printValue v ∷ printName ws m ∷ map printValue vs)
@@ -59,7 +60,7 @@ line ws = form ws ++ (10 ∷ [])
 -- the line of the entity (a s n)
 unfoldable pub printEntity : List Bytes → Entity → Bytes → Bytes → Bytes → Bytes
 printEntity ws (object t F M) a s n = line (printTag t ∷ a ∷ s ∷ n ∷ (map (printField ws) F ++ printMethods ws M))
-printEntity ws (Entity.future v q) a s n = line (bytes "future" ∷ a ∷ s ∷ n ∷ printState v ∷ map (printMessage ws) q)
+printEntity ws (Entity.future v q) a s n = line (futureWord ∷ a ∷ s ∷ n ∷ printState v ∷ map (printMessage ws) q)
 printEntity ws (resolver k) a s n = line (bytes "resolver" ∷ a ∷ s ∷ n ∷ printNumber k ∷ [])
 
 unfoldable pub printEntities : List Bytes → ℕ → Series → ℕ → List Entity → Bytes

@@ -6,9 +6,10 @@ use mathlib.Core.List.{List, [], _∷_, _++_, map}
 use lib.ListN.{getD}
 use lib.Dec.{ltb}
 use Rattle.atlite.specs.Base.{if_then_else_, bytes}
-use Rattle.atlite.specs.Term.{firstWord, Name, plain, twoWay, Op, plus, percent, get, set, call, send, Shape, exactly, onField, calling, sending, shape, Kind}
+use Rattle.atlite.specs.Term.{firstWord, Name, plain, twoWay, Op, Shape, exactly, onField, calling, sending, shape}
+use Rattle.atlite.specs.Keywords.{Keywords, srcWord, printKind, letWord, futureWord, fnWord, whenWord, nullWord, thisWord, defWord, fieldWord, methodWord}
 use Rattle.atlite.specs.Lexicon.{Bytes}
-use Rattle.atlite.specs.Script.{SrcOp, kept, ask, resolve, seq, srcShape, Src, num, null, var, op, letIn, future, fn, when, literal, Srcs, nil, cons, SrcFields, noField, field, SrcMethods, noMethod, method, Line, expression, define}
+use Rattle.atlite.specs.Script.{SrcOp, srcShape, Src, num, null, var, op, letIn, future, fn, when, literal, Srcs, nil, cons, SrcFields, noField, field, SrcMethods, noMethod, method, Line, expression, define}
 
 -- the digits of n before the bytes w, at most k of them
 unfoldable pub digits : ℕ → ℕ → Bytes → Bytes
@@ -31,15 +32,10 @@ form ws = 40 ∷ (printItems ws ++ (41 ∷ []))
 
 -- the words below the first of a script
 unfoldable pub known : List Bytes
-known = bytes "this" ∷ bytes ".t" ∷ bytes ".f" ∷ bytes ".r" ∷ bytes ".l" ∷ bytes ".s" ∷ bytes ".x" ∷ bytes "apply" ∷ []
+known = thisWord ∷ bytes ".t" ∷ bytes ".f" ∷ bytes ".r" ∷ bytes ".l" ∷ bytes ".s" ∷ bytes ".x" ∷ bytes "apply" ∷ []
 
 unfoldable pub printWord : List Bytes → ℕ → Bytes
 printWord ws x = if ltb x firstWord then getD known x [] else getD ws (x - firstWord) []
-
-unfoldable pub printKind : Kind → Bytes
-printKind Kind.object = bytes "object"
-printKind Kind.isolate = bytes "isolate"
-printKind Kind.actor = bytes "actor"
 
 unfoldable pub printName : List Bytes → Name → Bytes
 printName ws (plain m) = printWord ws m
@@ -54,24 +50,8 @@ labelled f m (onField x k) = f x ∷ []
 labelled f m (calling x) = m x ∷ []
 labelled f m (sending x) = m x ∷ []
 
--- an operator's word, and its name
-unfoldable pub opWord : {N : Type 0} → Op N → Bytes
-opWord plus = bytes "plus"
-opWord percent = bytes "percent"
-opWord (get f) = bytes "get"
-opWord (set f) = bytes "set"
-opWord (call m) = bytes "call"
-opWord (send m) = bytes "send"
-
 unfoldable pub opNames : List Bytes → Op Name → List Bytes
 opNames ws o = labelled (printWord ws) (printName ws) (shape o)
-
-unfoldable pub srcWord : SrcOp → Bytes
-unfolding opWord
-srcWord (kept o) = opWord o
-srcWord (ask m) = bytes "ask"
-srcWord resolve = bytes "resolve"
-srcWord seq = bytes "seq"
 
 unfoldable pub srcNames : List Bytes → SrcOp → List Bytes
 srcNames ws o = labelled (printWord ws) (printWord ws) (srcShape o)
@@ -84,13 +64,13 @@ placed ns (e ∷ es) = e ∷ (ns ++ es)
 unfoldable mutual
   pub print : List Bytes → Src → Bytes
   print ws (num n) = printNumber n
-  print ws null = bytes "null"
+  print ws null = nullWord
   print ws (var x) = printWord ws x
   print ws (op o es) = form (srcWord o ∷ placed (srcNames ws o) (printAll ws es))
-  print ws (letIn x e d) = form (bytes "let" ∷ printWord ws x ∷ print ws e ∷ print ws d ∷ [])
-  print ws (future x y e) = form (bytes "future" ∷ printWord ws x ∷ printWord ws y ∷ print ws e ∷ [])
-  print ws (fn x e) = form (bytes "fn" ∷ printWord ws x ∷ print ws e ∷ [])
-  print ws (when e x d) = form (bytes "when" ∷ print ws e ∷ printWord ws x ∷ print ws d ∷ [])
+  print ws (letIn x e d) = form (letWord ∷ printWord ws x ∷ print ws e ∷ print ws d ∷ [])
+  print ws (future x y e) = form (futureWord ∷ printWord ws x ∷ printWord ws y ∷ print ws e ∷ [])
+  print ws (fn x e) = form (fnWord ∷ printWord ws x ∷ print ws e ∷ [])
+  print ws (when e x d) = form (whenWord ∷ print ws e ∷ printWord ws x ∷ print ws d ∷ [])
   print ws (literal k fs ms) = form (printKind k ∷ (printFields ws fs ++ printMethods ws ms))
 
   pub printAll : List Bytes → Srcs → List Bytes
@@ -99,20 +79,20 @@ unfoldable mutual
 
   pub printFields : List Bytes → SrcFields → List Bytes
   printFields ws noField = []
-  printFields ws (field f e fs) = form (bytes "field" ∷ printWord ws f ∷ print ws e ∷ []) ∷ printFields ws fs
+  printFields ws (field f e fs) = form (fieldWord ∷ printWord ws f ∷ print ws e ∷ []) ∷ printFields ws fs
 
   pub printMethods : List Bytes → SrcMethods → List Bytes
   printMethods ws noMethod = []
-  printMethods ws (method m xs e ms) = form (bytes "method" ∷ printWord ws m ∷ form (map (printWord ws) xs) ∷ print ws e ∷ []) ∷ printMethods ws ms
+  printMethods ws (method m xs e ms) = form (methodWord ∷ printWord ws m ∷ form (map (printWord ws) xs) ∷ print ws e ∷ []) ∷ printMethods ws ms
 
 unfoldable pub printLine : List Bytes → Line → Bytes
 printLine ws (expression e) = print ws e ++ (10 ∷ [])
-printLine ws (define x e) = form (bytes "def" ∷ printWord ws x ∷ print ws e ∷ []) ++ (10 ∷ [])
+printLine ws (define x e) = form (defWord ∷ printWord ws x ∷ print ws e ∷ []) ++ (10 ∷ [])
 
 unfoldable pub printScript : List Bytes → List Line → Bytes
 printScript ws [] = []
 printScript ws (l ∷ ls) = printLine ws l ++ printScript ws ls
 
 unfoldable pub Printer : Unit {0}
-unfolding digits printNumber printItems form known printWord printKind printName opWord opNames srcWord srcNames placed print printLine printScript
+unfolding Keywords digits printNumber printItems form known printWord printName opNames srcNames placed print printLine printScript
 Printer = tt

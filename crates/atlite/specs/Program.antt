@@ -12,6 +12,7 @@ use Rattle.atlite.specs.Base.{Result, done, refused, _>>=_, _>>_, requir
 use Rattle.atlite.specs.Lexicon.{Bytes, newline}
 use Rattle.atlite.specs.State.{State}
 use Rattle.atlite.specs.Load.{load}
+use Rattle.atlite.specs.Keywords.{operators}
 use Rattle.atlite.specs.Table.{read}
 use Rattle.atlite.specs.Listing.{listing}
 use Rattle.atlite.specs.Printer.{printNumber}
@@ -36,7 +37,7 @@ short (some i) = if leb (length (i .line)) 4096 then some i else none
 
 unfoldable pub started : Bytes → Result State
 started t = do
-  T ← read t
+  T ← read operators t
   load T
 
 unfoldable pub listed : State → Result Bytes

@@ -9,9 +9,10 @@ use mathlib.Core.Option.{Option, none, some}
 use lib.ListN.{length}
 use lib.Dec.{eqb}
 use Rattle.atlite.specs.Base.{Result, done, refused, _>>=_, _>>_, orRefuse, require, if_then_else_, bytes, sameBytes}
-use Rattle.atlite.specs.Term.{this, plus, percent, get, set, call, send, Shape, exactly, onField, calling, sending, Kind}
+use Rattle.atlite.specs.Term.{this, Shape, exactly, onField, calling, sending}
 use Rattle.atlite.specs.Lexicon.{Bytes, open′, close, space, newline, inWord, isWord, decimal, isNumber, dictionary, numberOf}
-use Rattle.atlite.specs.Script.{SrcOp, kept, ask, resolve, seq, srcShape, Src, Srcs, nil, cons, SrcFields, noField, field, SrcMethods, noMethod, method, Line, expression, define}
+use Rattle.atlite.specs.Keywords.{nullWord, thisWord, Operator, bare, naming, letIn, future, fn, when, literal, spelling}
+use Rattle.atlite.specs.Script.{srcShape, Src, Srcs, nil, cons, SrcFields, noField, field, SrcMethods, noMethod, method, Line, expression, define}
 
 -- how many brackets are open at once at most: n are open, and m were at most so far
 unfoldable pub depthFrom : ℕ → ℕ → Bytes → ℕ
@@ -44,8 +45,8 @@ after (b ∷ w) (c ∷ i) = if eqb b c then after w i else none
 unfoldable pub atom : List Bytes → Bytes → Result Src
 atom ws w =
     if isNumber w then done (Src.num (decimal 0 w))
-    else if sameBytes w (bytes "null") then done Src.null
-    else if sameBytes w (bytes "this") then done (Src.var this)
+    else if sameBytes w nullWord then done Src.null
+    else if sameBytes w thisWord then done (Src.var this)
     else (require 2 (isWord w) >> (orRefuse 2 (numberOf ws w) >>= λ x. done (Src.var x)))
 
 unfoldable pub readAtom : List Bytes → Reading Src
@@ -142,40 +143,10 @@ readMethods ws R (suc k) i = elim (after (bytes " (method ") i) [
     done (method m xs e ms, i₆))
 ]
 
--- What an operator's word begins: operands alone; an operand, a name, and the other operands; or the parts of a form of its own.
-pub data Operator : Type 0 where
-  bare : SrcOp → Operator
-  naming : (ℕ → SrcOp) → Operator
-  letIn future fn when : Operator
-  literal : Kind → Operator
-
--- the operators' words, in the grammar's order
-unfoldable pub operators : List (Bytes × Operator)
-operators =
-    (bytes "plus", bare (kept plus))
-    ∷ (bytes "percent", bare (kept percent))
-    ∷ (bytes "get", naming (λ f. kept (get f)))
-    ∷ (bytes "set", naming (λ f. kept (set f)))
-    ∷ (bytes "call", naming (λ m. kept (call m)))
-    ∷ (bytes "send", naming (λ m. kept (send m)))
-    ∷ (bytes "ask", naming ask)
-    ∷ (bytes "let", letIn)
-    ∷ (bytes "future", future)
-    ∷ (bytes "fn", fn)
-    ∷ (bytes "resolve", bare resolve)
-    ∷ (bytes "when", when)
-    ∷ (bytes "seq", bare seq)
-    ∷ (bytes "object", literal Kind.object)
-    ∷ (bytes "isolate", literal Kind.isolate)
-    ∷ (bytes "actor", literal Kind.actor)
-    ∷ []
-
-unfoldable pub spelled : List (Bytes × Operator) → Bytes → Option Operator
+-- the operator of those taken that is spelled so
+unfoldable pub spelled : List Operator → Bytes → Option Operator
 spelled [] w = none
-spelled (r ∷ rs) w = if sameBytes (r .0) w then some (r .1) else spelled rs w
-
-unfoldable pub operator : Bytes → Option Operator
-operator w = spelled operators w
+spelled (o ∷ os) w = if sameBytes (spelling o) w then some o else spelled os w
 
 -- what stands behind an operator's word, to the closing bracket; a name stands behind the first operand
 unfoldable pub readForm : Operator → List Bytes → Reading Src → Reading Src
@@ -216,43 +187,44 @@ readForm (literal k) ws R i = do
   i₃ ← eat close i₂
   done (Src.literal k fs ms, i₃)
 
-unfoldable pub readExpr : ℕ → List Bytes → Reading Src
-readExpr zero ws i = refused 2
-readExpr (suc n) ws [] = refused 2
-readExpr (suc n) ws (b ∷ i) = elim (eqb b open′) [
-  | true ↦ (orRefuse 2 (operator (item i .0)) >>= λ o. readForm o ws (λ j. readExpr n ws j) (item i .1))
+-- From here on `os` are the operators that a text may have.
+unfoldable pub readExpr : List Operator → ℕ → List Bytes → Reading Src
+readExpr os zero ws i = refused 2
+readExpr os (suc n) ws [] = refused 2
+readExpr os (suc n) ws (b ∷ i) = elim (eqb b open′) [
+  | true ↦ (orRefuse 2 (spelled os (item i .0)) >>= λ o. readForm o ws (λ j. readExpr os n ws j) (item i .1))
   | false ↦ readAtom ws (b ∷ i)
 ]
 
-unfoldable pub readDefinition : ℕ → List Bytes → Reading Line
-readDefinition n ws i = do
+unfoldable pub readDefinition : List Operator → ℕ → List Bytes → Reading Line
+readDefinition os n ws i = do
   (x, i₁) ← readWord ws i
-  (e, i₂) ← spaced (readExpr n ws) i₁
+  (e, i₂) ← spaced (readExpr os n ws) i₁
   i₃ ← eat close i₂
   i₄ ← eat newline i₃
   done (define x e, i₄)
 
-unfoldable pub readLine : ℕ → List Bytes → Reading Line
-readLine n ws i = elim (after (bytes "(def ") i) [
-  | some i₁ ↦ readDefinition n ws i₁
+unfoldable pub readLine : List Operator → ℕ → List Bytes → Reading Line
+readLine os n ws i = elim (after (bytes "(def ") i) [
+  | some i₁ ↦ readDefinition os n ws i₁
   | none ↦ (do
-    (e, i₁) ← readExpr n ws i
+    (e, i₁) ← readExpr os n ws i
     i₂ ← eat newline i₁
     done (expression e, i₂))
 ]
 
 -- lines to the end of the text; n is above its length
-unfoldable pub readLines : ℕ → List Bytes → Bytes → Result (List Line)
-readLines zero ws i = refused 2
-readLines (suc n) ws [] = done []
-readLines (suc n) ws (b ∷ i) = do
-  (l, i₁) ← readLine (suc n) ws (b ∷ i)
-  ls ← readLines n ws i₁
+unfoldable pub readLines : List Operator → ℕ → List Bytes → Bytes → Result (List Line)
+readLines os zero ws i = refused 2
+readLines os (suc n) ws [] = done []
+readLines os (suc n) ws (b ∷ i) = do
+  (l, i₁) ← readLine os (suc n) ws (b ∷ i)
+  ls ← readLines os n ws i₁
   done (l ∷ ls)
 
-unfoldable pub readScript : Bytes → Result (List Line)
-readScript t = readLines (length t + 1) (dictionary t) t
+unfoldable pub readScript : List Operator → Bytes → Result (List Line)
+readScript os t = readLines os (length t + 1) (dictionary t) t
 
 unfoldable pub Reader : Unit {0}
-unfolding depthFrom depth item eat after atom readAtom readWord spaced spacedWord readItems readOperands readParams readNames readHead readFields readMethods operators spelled operator readForm readExpr readDefinition readLine readLines readScript
+unfolding depthFrom depth item eat after atom readAtom readWord spaced spacedWord readItems readOperands readParams readNames readHead readFields readMethods spelled readForm readExpr readDefinition readLine readLines readScript
 Reader = tt

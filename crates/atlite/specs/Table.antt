@@ -8,6 +8,7 @@ use lib.ListN.{length}
 use lib.Dec.{eqb, leb, ltb}
 use Rattle.atlite.specs.Base.{Result, done, _>>=_, _>>_, require, all}
 use Rattle.atlite.specs.Term.{this, top, plain, send, written}
+use Rattle.atlite.specs.Keywords.{Operator}
 use Rattle.atlite.specs.Lexicon.{Bytes, wordsOf, dictionary}
 use Rattle.atlite.specs.Script.{SrcOp, kept, ask, resolve, seq, Src, num, null, var, op, letIn, future, fn, when, literal, Srcs, nil, cons, SrcFields, noField, field, SrcMethods, noMethod, method, Line, expression, define, countSrcs, size, join}
 use Rattle.atlite.specs.Printer.{printScript}
@@ -20,10 +21,11 @@ pub record Table : Type 0 where
   pub words : List Bytes
   pub lines : List Line
 
-unfoldable pub read : Bytes → Result Table
-read t = do
+-- os are the operators that a text may have
+unfoldable pub read : List Operator → Bytes → Result Table
+read os t = do
   require 1 (ltb 0 (length t) && leb (length t) 4096)
-  ls ← readScript t
+  ls ← readScript os t
   e ← join ls
   require 3 (bound [] e)
   require 4 (single e)

@@ -9,7 +9,8 @@ use lib.Dec.{eqb}
 use Rattle.atlite.specs.Base.{Result, bytes, sameBytes}
 use Rattle.atlite.specs.Lexicon.{Bytes, open′, close, space, newline, isWord, isNumber, dictionary, numberOf}
 use Rattle.atlite.specs.Script.{Src, nil, cons, Line, expression, define, join}
-use Rattle.atlite.specs.Reader.{Reading, item, eat, after, atom, readAtom, readWord, spaced, spacedWord, readItems, readOperands, readParams, readNames, readHead, readFields, readMethods, Operator, bare, naming, letIn, future, fn, when, literal, operator, readForm, readExpr, readDefinition, readLine, readLines, readScript}
+use Rattle.atlite.specs.Reader.{Reading, item, eat, after, atom, readAtom, readWord, spaced, spacedWord, readItems, readOperands, readParams, readNames, readHead, readFields, readMethods, operator, readForm, readExpr, readDefinition, readLine, readLines, readScript}
+use Rattle.atlite.specs.Keywords.{Operator, bare, naming, letIn, future, fn, when, literal, operators}
 use Rattle.atlite.specs.Table.{Table, read}
 use Rattle.atlite.specs.Load.{load}
 use Rattle.atlite_calls.specs.Causes.{Caused, fine, stopped, asked, next, tested, either}
@@ -90,17 +91,17 @@ module _ (ws : List Bytes) (R : Reading Src) (h : Fair R) where
   form-fair (literal k) i = next (fields-fair 4 i) λ p. next (methods-fair 4 (p .1)) λ q. next (eat-fair close (q .1)) λ l. fine
 
 -- ---- expressions, lines, scripts
-read-expr-fair : (n : ℕ) (ws : List Bytes) → Fair (readExpr n ws)
+read-expr-fair : (n : ℕ) (ws : List Bytes) → Fair (readExpr operators n ws)
 unfolding readExpr readAtom
 read-expr-fair zero ws i = stopped refl
 read-expr-fair (suc n) ws [] = stopped refl
-read-expr-fair (suc n) ws (b ∷ i) = branch (eqb b open′) (next (asked 2 (operator (item i .0)) refl) λ o. form-fair ws (λ j. readExpr n ws j) (read-expr-fair n ws) o (item i .1)) (next (atom-fair ws (item (b ∷ i) .0)) λ e. fine)
+read-expr-fair (suc n) ws (b ∷ i) = branch (eqb b open′) (next (asked 2 (spelled operators (item i .0)) refl) λ o. form-fair ws (λ j. readExpr operators n ws j) (read-expr-fair n ws) o (item i .1)) (next (atom-fair ws (item (b ∷ i) .0)) λ e. fine)
 
-line-fair : (n : ℕ) (ws : List Bytes) → Fair (readLine n ws)
+line-fair : (n : ℕ) (ws : List Bytes) → Fair (readLine operators n ws)
 unfolding readLine readDefinition
-line-fair n ws i = option (after (bytes "(def ") i) (next (read-expr-fair n ws i) λ p. next (eat-fair newline (p .1)) λ l. fine) (λ j. next (word-fair ws j) λ p. next (spaced-fair (readExpr n ws) (read-expr-fair n ws) (p .1)) λ q. next (eat-fair close (q .1)) λ l. next (eat-fair newline l) λ m. fine)
+line-fair n ws i = option (after (bytes "(def ") i) (next (read-expr-fair n ws i) λ p. next (eat-fair newline (p .1)) λ l. fine) (λ j. next (word-fair ws j) λ p. next (spaced-fair (readExpr operators n ws) (read-expr-fair n ws) (p .1)) λ q. next (eat-fair close (q .1)) λ l. next (eat-fair newline l) λ m. fine)
 
-lines-fair : (n : ℕ) (ws : List Bytes) (i : Bytes) → Caused (readLines n ws i)
+lines-fair : (n : ℕ) (ws : List Bytes) (i : Bytes) → Caused (readLines operators n ws i)
 unfolding readLines
 lines-fair zero ws i = stopped refl
 lines-fair (suc n) ws [] = fine

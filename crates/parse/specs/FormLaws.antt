@@ -13,9 +13,10 @@ use lib.Seq.{slice}
 use Rattle.atlite.specs.Base.{Base, Result, done, refused, orRefuse, _>>=_, bytes, sameBytes, if_then_else_}
 use Rattle.atlite.specs.Facts.{get-past}
 use Rattle.atlite.specs.Term.{Kind, object, isolate, actor, plus, percent, get, set, call, send}
-use Rattle.atlite.specs.Lexicon.{Bytes, reserved, dictionary, isNumber, isWord, letterFirst}
+use Rattle.atlite.specs.Lexicon.{Bytes, dictionary, isNumber, isWord, letterFirst}
+use Rattle.atlite.specs.Keywords.{reserved, Operator, operators}
 use Rattle.atlite.specs.Script.{SrcOp, kept, ask, resolve, seq, Src, op, nil, cons, countSrcs}
-use Rattle.atlite.specs.Reader.{Reading, Operator, spelled, operators, operator, item, after, atom, readAtom, readItems, readOperands, readForm, readExpr}
+use Rattle.atlite.specs.Reader.{Reading, spelled, operator, item, after, atom, readAtom, readItems, readOperands, readForm, readExpr}
 use Rattle.layout.specs.Terms.{kindNumber}
 use Rattle.layout.specs.Tables.{srcKind}
 use Rattle.words.specs.Wide.{wide, pair, widePayload, wideSrc}
@@ -39,17 +40,17 @@ open-byte (c ∷ i) j e = go (eqb 40 c) refl e
     go true p q = let z = eqb-true 40 c p in let y : i ≡ j = cc in rw (← z, y)
     go false p q = absurd (let z : _≡_ {A = ℕ} 0 1 = cc in omega arith)
 
-not-open : (n : ℕ) (ws : List Bytes) (i : Bytes) → after (40 ∷ []) i ≡ none → readExpr (suc n) ws i ≡ readAtom ws i
+not-open : (n : ℕ) (ws : List Bytes) (i : Bytes) → after (40 ∷ []) i ≡ none → readExpr operators (suc n) ws i ≡ readAtom ws i
 unfolding after if_then_else_ readExpr readAtom atom item isNumber isWord letterFirst Base
 not-open n ws [] e = refl
 not-open n ws (c ∷ i) e = go (eqb 40 c) refl e
   where
-    go : (b : Bool) → eqb 40 c ≡ b → (if b then some i else none) ≡ none → readExpr (suc n) ws (c ∷ i) ≡ readAtom ws (c ∷ i)
+    go : (b : Bool) → eqb 40 c ≡ b → (if b then some i else none) ≡ none → readExpr operators (suc n) ws (c ∷ i) ≡ readAtom ws (c ∷ i)
     go true p q = absurd (let z : _≡_ {A = ℕ} 0 1 = cc in omega arith)
     go false p q = rw (ne-eqb c 40 (λ z. let y = eqb-false 40 c p in y (sym z)), readExpr)
 
 module _ (t : Bytes) (at o : ℕ) (old new : List ℕ) (r : Bool) (s : Starts t at (40 ∷ []) r) (a : Step) where
-  opened : (n : ℕ) → r ≡ true → readExpr (suc n) (dictionary t) (drop at t) ≡ brackets t n (drop (at + 1) t)
+  opened : (n : ℕ) → r ≡ true → readExpr operators (suc n) (dictionary t) (drop at t) ≡ brackets t n (drop (at + 1) t)
   unfolding Starts readExpr brackets
   opened n k = let z = open-byte (drop at t) (drop (at + 1) t) (rw k at s .0) in rw z
 
@@ -58,7 +59,7 @@ module _ (t : Bytes) (at o : ℕ) (old new : List ℕ) (r : Bool) (s : Starts t 
   expr-open k h n l =
       let z : suc (n - 1) ≡ n = omega arith in
       shift Src wideSrc t at o old new (at + 1) _ _ a (omega arith)
-      (ap (λ (m : ℕ). readExpr m (dictionary t) (drop at t)) (sym z) ∙ opened (n - 1) k) (h (n - 1) (omega (arith, room)))
+      (ap (λ (m : ℕ). readExpr operators m (dictionary t) (drop at t)) (sym z) ∙ opened (n - 1) k) (h (n - 1) (omega (arith, room)))
     where
       room : at + 1 ≤ length t
       room = starts-room t at 1 (40 ∷ []) r s k refl
@@ -68,7 +69,7 @@ module _ (t : Bytes) (at o : ℕ) (old new : List ℕ) (r : Bool) (s : Starts t 
   expr-atom k h n l =
       let z : suc (n - 1) ≡ n = omega arith in
       shift Src wideSrc t at o old new at _ _ a (omega arith)
-      (ap (λ (m : ℕ). readExpr m (dictionary t) (drop at t)) (sym z) ∙ not-open (n - 1) (dictionary t) (drop at t) (rw k at s)) h
+      (ap (λ (m : ℕ). readExpr operators m (dictionary t) (drop at t)) (sym z) ∙ not-open (n - 1) (dictionary t) (drop at t) (rw k at s)) h
 
 -- ---- the operator
 abbrev shapes : List (Bytes × Operator) → List Operator
@@ -84,7 +85,7 @@ spelled-index (r ∷ rs) vs w = go (sameBytes (r .0) w) (spelled-index rs vs w)
     go true e = refl
     go false e = e
 
-operator-index : (w : Bytes) → operator w ≡ getElem? (shapes operators) (index reserved w)
+operator-index : (w : Bytes) → spelled operators w ≡ getElem? (shapes operators) (index reserved w)
 unfolding operator operators reserved Base
 operator-index w = spelled-index operators (bytes "null" ∷ bytes "this" ∷ bytes "def" ∷ bytes "field" ∷ bytes "method" ∷ []) w
 
@@ -93,8 +94,8 @@ module _ (t : Bytes) (at e o k : ℕ) (old new : List ℕ) (a : Step) where
   unfolding brackets forms formBy orRefuse
   operator-form n h p = rw (h .is, h .rest, operator-index (slice at e t), ← p) (go (getElem? (shapes operators) k))
     where
-      go : (x : Option Operator) → (orRefuse 2 x >>= λ q. readForm q (dictionary t) (readExpr n (dictionary t)) (drop e t))
-          ≡ (elim x [ none ↦ refused 2 | some q ↦ readForm q (dictionary t) (readExpr n (dictionary t)) (drop e t) ])
+      go : (x : Option Operator) → (orRefuse 2 x >>= λ q. readForm q (dictionary t) (readExpr operators n (dictionary t)) (drop e t))
+          ≡ (elim x [ none ↦ refused 2 | some q ↦ readForm q (dictionary t) (readExpr operators n (dictionary t)) (drop e t) ])
       go none = refl
       go (some q) = refl
 

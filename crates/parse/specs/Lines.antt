@@ -10,6 +10,7 @@ use lib.Seq.{sets}
 use Rattle.atlite.specs.Base.{Result, done, refused, _>>=_, bytes}
 use Rattle.atlite.specs.Lexicon.{Bytes, newline, dictionary}
 use Rattle.atlite.specs.Script.{Src, Line, expression, define}
+use Rattle.atlite.specs.Keywords.{operators}
 use Rattle.atlite.specs.Reader.{Reading, eat, readWord, readExpr, readDefinition, readLine}
 use Rattle.words.specs.Wide.{wide, wideSrc, wideLine}
 use Rattle.scan.specs.Runs.{Starts}
@@ -34,16 +35,16 @@ LineEnd t j q (Done i p) = EndsAt t j q i p
 LineEnd t j q Bad = eat 10 (drop j t) ≡ refused 2
 
 unfoldable pub definitions : Bytes → ℕ → Reading Line
-definitions t n i = readDefinition n (dictionary t) i
+definitions t n i = readDefinition operators n (dictionary t) i
 
 unfoldable pub sentences : Bytes → ℕ → Reading Line
 sentences t n i = do
-  (e, i₁) ← readExpr n (dictionary t) i
+  (e, i₁) ← readExpr operators n (dictionary t) i
   i₂ ← eat newline i₁
   done (expression e, i₂)
 
 unfoldable pub lineOf : Bytes → ℕ → Reading Line
-lineOf t n i = readLine n (dictionary t) i
+lineOf t n i = readLine operators n (dictionary t) i
 
 -- ---- the end of a line
 module _ (t : Bytes) (at p : ℕ) (r : Bool) (s : Starts t at (10 ∷ []) r) where
@@ -79,7 +80,7 @@ ending A enc f t at b o old new R Q i p Bad h l x e z = e ∙ rw z
 
 module _ (t : Bytes) (at o : ℕ) (old new : List ℕ) (a : Step) where
   module _ (s : Reads wideSrc (exprs t) t at o old new a) where
-    sentence-core : (n i p : ℕ) (r : Step) → Read wideSrc t at o old new (readExpr n (dictionary t) (drop at t)) i p → LineEnd t i p r
+    sentence-core : (n i p : ℕ) (r : Step) → Read wideSrc t at o old new (readExpr operators n (dictionary t) (drop at t)) i p → LineEnd t i p r
         → Took wideLine t at o old new (sentences t n (drop at t)) r
     unfolding sentences wideLine
     sentence-core n i p r x z = ending Src wideSrc expression t at at o old new _ _ i p r (λ v. refl) (omega arith) x (rw (x .is)) z
@@ -101,11 +102,11 @@ module _ (t : Bytes) (at o : ℕ) (old new : List ℕ) (a : Step) where
       unfolding NameOf Named
       named = rw e at v
 
-      definitions-is : (n : ℕ) → definitions t n (drop at t) ≡ (_>>=_ {B = Line × Bytes} (readOne (readExpr n (dictionary t)) (drop i t)) (λ r. _>>=_ {B = Line × Bytes} (eat 10 (r .1)) (λ j. done (define y (r .0), j))))
+      definitions-is : (n : ℕ) → definitions t n (drop at t) ≡ (_>>=_ {B = Line × Bytes} (readOne (readExpr operators n (dictionary t)) (drop i t)) (λ r. _>>=_ {B = Line × Bytes} (eat 10 (r .1)) (λ j. done (define y (r .0), j))))
       unfolding definitions readDefinition readOne
       definitions-is n = let g = named in rw (g .is) (simp bind-assoc)
 
-      definition-core : (n j p : ℕ) (r : Step) → Read (oneWords w) t i o old new (readOne (readExpr n (dictionary t)) (drop i t)) j p → LineEnd t j p r
+      definition-core : (n j p : ℕ) (r : Step) → Read (oneWords w) t i o old new (readOne (readExpr operators n (dictionary t)) (drop i t)) j p → LineEnd t j p r
           → Took wideLine t at o old new (definitions t n (drop at t)) r
       unfolding wideLine oneWords
       definition-core n j p r z u =

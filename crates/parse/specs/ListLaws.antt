@@ -10,6 +10,7 @@ use Rattle.atlite.specs.Base.{Result, done, refused, _>>=_, bytes}
 use Rattle.atlite.specs.Lexicon.{Bytes, dictionary}
 use Rattle.atlite.specs.Script.{Src, SrcFields, SrcMethods}
 use Rattle.atlite.specs.Table.{countFields, countMethods}
+use Rattle.atlite.specs.Keywords.{operators}
 use Rattle.atlite.specs.Reader.{Reading, readWord, readFields, readMethods, readExpr}
 use Rattle.words.specs.Wide.{wide, wideSrc, wideFields, wideMethods}
 use Rattle.scan.specs.Runs.{Starts}
@@ -78,10 +79,10 @@ module _ (L : Type 0) (enc : L → List ℕ) (num : L → ℕ) (con : Src → L 
 
 -- ---- its expression, behind its header word w
 unfoldable pub OneRead : Bytes → ℕ → ℕ → ℕ → List ℕ → List ℕ → ℕ → ℕ → ℕ → Type 0
-OneRead t i o w old new n j p = Read (oneWords w) t i o old new (readOne (readExpr n (dictionary t)) (drop i t)) j p
+OneRead t i o w old new n j p = Read (oneWords w) t i o old new (readOne (readExpr operators n (dictionary t)) (drop i t)) j p
 
 module _ (t : Bytes) (at i o w : ℕ) (old new : List ℕ) (a : Step) (far : at < i) (u : Reads (oneWords w) (ones t) t i o old new a) where
-  pub value-bad : (n : ℕ) → a ≡ Bad → length t - at < n → readOne (readExpr n (dictionary t)) (drop i t) ≡ refused 2
+  pub value-bad : (n : ℕ) → a ≡ Bad → length t - at < n → readOne (readExpr operators n (dictionary t)) (drop i t) ≡ refused 2
   unfolding Reads Took ones
   value-bad n d l = rw d at (u n (omega arith))
 
@@ -109,7 +110,7 @@ module _ (t : Bytes) (at o b : ℕ) (old new : List ℕ) where
     left : 4 - b ≡ suc (4 - (b + 1))
     left = omega arith
 
-    field-is : (n : ℕ) → r ≡ true → readFields (dictionary t) (readExpr n (dictionary t)) (suc (4 - (b + 1))) (drop at t) ≡ fieldAt b t n (drop (at + 8) t)
+    field-is : (n : ℕ) → r ≡ true → readFields (dictionary t) (readExpr operators n (dictionary t)) (suc (4 - (b + 1))) (drop at t) ≡ fieldAt b t n (drop (at + 8) t)
     unfolding Starts readFields fieldAt readOne bytes
     field-is n e = let y = rw e at s in rw (y .0, readFields) (simp bind-assoc)
 
@@ -133,7 +134,7 @@ module _ (t : Bytes) (at o b : ℕ) (old new : List ℕ) where
         }
     fields-more NoItems e u n l = rw left (field-is n e) ∙ u n (omega arith)
 
-    none-is : (n : ℕ) → r ≡ false → readFields (dictionary t) (readExpr n (dictionary t)) (suc (4 - (b + 1))) (drop at t) ≡ done (SrcFields.noField, drop at t)
+    none-is : (n : ℕ) → r ≡ false → readFields (dictionary t) (readExpr operators n (dictionary t)) (suc (4 - (b + 1))) (drop at t) ≡ done (SrcFields.noField, drop at t)
     unfolding Starts readFields bytes
     none-is n e = let y = rw e at s in rw (y, readFields)
 
@@ -169,7 +170,7 @@ module _ (t : Bytes) (at o b : ℕ) (old new : List ℕ) where
       One n j p = OneRead t i o w old m₁ n j p
 
       Rest : ℕ → ℕ → ℕ → ℕ → ℕ → ℕ → Type 0
-      Rest n j p k q c = ListRead wideFields countFields 4 (b + 1) t j p m₁ new (readFields (dictionary t) (readExpr n (dictionary t)) (4 - (b + 1)) (drop j t)) k q c
+      Rest n j p k q c = ListRead wideFields countFields 4 (b + 1) t j p m₁ new (readFields (dictionary t) (readExpr operators n (dictionary t)) (4 - (b + 1)) (drop j t)) k q c
 
       field-core : (n j p k q c : ℕ) → One n j p → Rest n j p k q c → ListRead wideFields countFields 4 b t at o old new (fieldAt b t n (drop at t)) k q c
       unfolding fieldAt wideSrc countFields OneRead Rest
@@ -179,7 +180,7 @@ module _ (t : Bytes) (at o b : ℕ) (old new : List ℕ) where
           item-core SrcFields wideFields countFields (SrcFields.field f) w (λ e l. rw h) (λ e l. refl) t at o b i j p k q c old m₁ new _ _ _ z v
           (rw (y .is) (rw (z .is) (rw (v .is)))) (omega arith)
 
-      field-last : (n j p : ℕ) → One n j p → readFields (dictionary t) (readExpr n (dictionary t)) (4 - (b + 1)) (drop j t) ≡ refused 2 → fieldAt b t n (drop at t) ≡ refused 2
+      field-last : (n j p : ℕ) → One n j p → readFields (dictionary t) (readExpr operators n (dictionary t)) (4 - (b + 1)) (drop j t) ≡ refused 2 → fieldAt b t n (drop at t) ≡ refused 2
       unfolding fieldAt OneRead
       field-last n j p z v = let y = named in rw (y .is) (rw (z .is) (rw v))
 
@@ -194,10 +195,10 @@ module _ (t : Bytes) (at o b : ℕ) (old new : List ℕ) where
 -- ---- literals
 module _ (t : Bytes) (at p o k c : ℕ) (old m₁ new : List ℕ) (b : Listed) (s : Lists wideMethods countMethods 4 0 (methodsFrom 0 t) t at p old m₁ b) where
   abbrev Methods : ℕ → ℕ → ℕ → ℕ → Type 0
-  Methods n j q d = ListRead wideMethods countMethods 4 0 t at p old m₁ (readMethods (dictionary t) (readExpr n (dictionary t)) 4 (drop at t)) j q d
+  Methods n j q d = ListRead wideMethods countMethods 4 0 t at p old m₁ (readMethods (dictionary t) (readExpr operators n (dictionary t)) 4 (drop at t)) j q d
 
   ended-core : (n j q d w : ℕ) (r : Step) → Methods n j q d → w ≡ wide k (c + 8 * d) → Closed t j m₁ o w q new r
-      → TookEnd k c t at p old o new (readRest (dictionary t) (readExpr n (dictionary t)) (drop at t)) r
+      → TookEnd k c t at p old o new (readRest (dictionary t) (readExpr operators n (dictionary t)) (drop at t)) r
   unfolding TookEnd Closed readRest
   ended-core n j q d w (Done i l) x h z =
       let b₁ = x .short in
@@ -228,18 +229,18 @@ module _ (t : Bytes) (at p o k c : ℕ) (old m₁ new : List ℕ) (b : Listed) (
 
 module _ (t : Bytes) (at o : ℕ) (old m₁ new : List ℕ) (k : ℕ) (a : Listed) (u : Lists wideFields countFields 4 0 (fieldsFrom 0 t) t at (o + 1) old m₁ a) where
   abbrev Fields : ℕ → ℕ → ℕ → ℕ → Type 0
-  Fields n i p c = ListRead wideFields countFields 4 0 t at (o + 1) old m₁ (readFields (dictionary t) (readExpr n (dictionary t)) 4 (drop at t)) i p c
+  Fields n i p c = ListRead wideFields countFields 4 0 t at (o + 1) old m₁ (readFields (dictionary t) (readExpr operators n (dictionary t)) 4 (drop at t)) i p c
 
   pub literal-bad : a ≡ NoItems → Reads (literalWords k) (literals t) t at o old new Bad
   unfolding Reads Took literals readLiteral Lists TookList fieldsFrom
   literal-bad e n l = let z = rw e at (u n l) in rw z
 
   literals-is : (n i p c : ℕ) (x : Fields n i p c)
-      → literals t n (drop at t) ≡ _>>=_ {B = (SrcFields × SrcMethods) × Bytes} (readRest (dictionary t) (readExpr n (dictionary t)) (drop i t)) (λ r. done ((x .value, r .0), r .1))
+      → literals t n (drop at t) ≡ _>>=_ {B = (SrcFields × SrcMethods) × Bytes} (readRest (dictionary t) (readExpr operators n (dictionary t)) (drop i t)) (λ r. done ((x .value, r .0), r .1))
   unfolding literals readLiteral readRest
   literals-is n i p c x = rw (x .is) (simp bind-assoc)
 
-  literal-core : (n i p c : ℕ) (r : Step) → Fields n i p c → TookEnd k c t i p m₁ o new (readRest (dictionary t) (readExpr n (dictionary t)) (drop i t)) r
+  literal-core : (n i p c : ℕ) (r : Step) → Fields n i p c → TookEnd k c t i p m₁ o new (readRest (dictionary t) (readExpr operators n (dictionary t)) (drop i t)) r
       → Took (literalWords k) t at o old new (literals t n (drop at t)) r
   unfolding Took TookEnd literalWords
   literal-core n i p c (Done j q) x y =

@@ -9,6 +9,7 @@ use Rattle.atlite.specs.Base.{done, refused, bytes}
 use Rattle.atlite.specs.Lexicon.{Bytes, dictionary}
 use Rattle.atlite.specs.Script.{SrcMethods}
 use Rattle.atlite.specs.Table.{countMethods}
+use Rattle.atlite.specs.Keywords.{operators}
 use Rattle.atlite.specs.Reader.{readMethods, readExpr}
 use Rattle.words.specs.Wide.{wideSrc, wideMethods}
 use Rattle.scan.specs.Runs.{Starts}
@@ -43,7 +44,7 @@ module _ (t : Bytes) (at o b : ℕ) (old new : List ℕ) where
     left : 4 - b ≡ suc (4 - (b + 1))
     left = omega arith
 
-    method-is : (n : ℕ) → r ≡ true → readMethods (dictionary t) (readExpr n (dictionary t)) (suc (4 - (b + 1))) (drop at t) ≡ methodAt b t n (drop (at + 9) t)
+    method-is : (n : ℕ) → r ≡ true → readMethods (dictionary t) (readExpr operators n (dictionary t)) (suc (4 - (b + 1))) (drop at t) ≡ methodAt b t n (drop (at + 9) t)
     unfolding Starts readMethods methodAt readHeader readAll readOne bytes
     method-is n e = let y = rw e at s in rw (y .0, readMethods) (simp bind-assoc)
 
@@ -67,7 +68,7 @@ module _ (t : Bytes) (at o b : ℕ) (old new : List ℕ) where
         }
     methods-more NoItems e u n l = rw left (method-is n e) ∙ u n (omega arith)
 
-    none-is : (n : ℕ) → r ≡ false → readMethods (dictionary t) (readExpr n (dictionary t)) (suc (4 - (b + 1))) (drop at t) ≡ done (SrcMethods.noMethod, drop at t)
+    none-is : (n : ℕ) → r ≡ false → readMethods (dictionary t) (readExpr operators n (dictionary t)) (suc (4 - (b + 1))) (drop at t) ≡ done (SrcMethods.noMethod, drop at t)
     unfolding Starts readMethods bytes
     none-is n e = let y = rw e at s in rw (y, readMethods)
 
@@ -103,7 +104,7 @@ module _ (t : Bytes) (at o b : ℕ) (old new : List ℕ) where
       One n j p = OneRead t i o w old m₁ n j p
 
       Rest : ℕ → ℕ → ℕ → ℕ → ℕ → ℕ → Type 0
-      Rest n j p k q c = ListRead wideMethods countMethods 4 (b + 1) t j p m₁ new (readMethods (dictionary t) (readExpr n (dictionary t)) (4 - (b + 1)) (drop j t)) k q c
+      Rest n j p k q c = ListRead wideMethods countMethods 4 (b + 1) t j p m₁ new (readMethods (dictionary t) (readExpr operators n (dictionary t)) (4 - (b + 1)) (drop j t)) k q c
 
       method-core : (n j p k q c : ℕ) → HeadRead (readHeader (dictionary t) (drop at t)) t at i w → One n j p → Rest n j p k q c
           → ListRead wideMethods countMethods 4 b t at o old new (methodAt b t n (drop at t)) k q c
@@ -113,7 +114,7 @@ module _ (t : Bytes) (at o b : ℕ) (old new : List ℕ) where
           item-core SrcMethods wideMethods countMethods (SrcMethods.method (y .value .0) (y .value .1)) w (λ e l. rw (y .word)) (λ e l. refl) t at o b i j p k q c old m₁ new _ _ _ z v
           (rw (y .is) (rw (z .is) (rw (v .is)))) (omega arith)
 
-      method-last : (n j p : ℕ) → One n j p → readMethods (dictionary t) (readExpr n (dictionary t)) (4 - (b + 1)) (drop j t) ≡ refused 2 → methodAt b t n (drop at t) ≡ refused 2
+      method-last : (n j p : ℕ) → One n j p → readMethods (dictionary t) (readExpr operators n (dictionary t)) (4 - (b + 1)) (drop j t) ≡ refused 2 → methodAt b t n (drop at t) ≡ refused 2
       unfolding methodAt OneRead
       method-last n j p z v = let y = named in rw (y .is) (rw (z .is) (rw v))
 

@@ -12,6 +12,7 @@ use lib.Seq.{sets, sets-eq, length-sets, take-append-seam, drop-cons}
 use Rattle.atlite.specs.Base.{Result, done, refused, _>>=_, bytes}
 use Rattle.atlite.specs.Lexicon.{Bytes, dictionary}
 use Rattle.atlite.specs.Script.{seq, Src, op, nil, cons, Line, expression, define, join}
+use Rattle.atlite.specs.Keywords.{operators}
 use Rattle.atlite.specs.Reader.{eat, after, spaced, readWord, readExpr, readDefinition, readLine, readLines, readScript}
 use Rattle.atlite.specs.Facts.{Every, holds, every-done, given}
 use Rattle.layout.specs.Pack.{flat}
@@ -34,7 +35,7 @@ Closing t at false = (j : Bytes) × (after (bytes "(def ") (drop at t) ≡ some 
 pub record ParsedAs (t : Bytes) (out : List ℕ) (words lines : ℕ) : Type 0 where
   pub script : List Line
   pub whole : Src
-  pub read : readScript t ≡ done script
+  pub read : readScript operators t ≡ done script
   pub joined : join script ≡ done whole
   pub written : take words out ≡ wideLines script
   pub used : words ≡ length (wideLines script)
@@ -43,7 +44,7 @@ pub record ParsedAs (t : Bytes) (out : List ℕ) (words lines : ℕ) : Type 0 wh
 
 unfoldable pub Parses : Bytes → List ℕ → Parsed → Type 0
 Parses t out (Done w n) = ParsedAs t out w n
-Parses t out Bad = (readScript t >>= join) ≡ refused 2
+Parses t out Bad = (readScript operators t >>= join) ≡ refused 2
 
 -- ---- the last line
 unfoldable pub isExpression : Line → Bool
@@ -81,7 +82,7 @@ join-bad (define x e ∷ l ∷ ls) h = rw (join-bad (l ∷ ls) h)
 pub record Lining (t : Bytes) (at o n : ℕ) (last : Bool) (out : List ℕ) : Type 0 where
   pub lines : List Line
   pub old : List ℕ
-  pub left : readScript t ≡ _>>=_ {B = List Line} (readLines (length t + 1 - n) (dictionary t) (drop at t)) (λ ms. done (lines ++ ms))
+  pub left : readScript operators t ≡ _>>=_ {B = List Line} (readLines operators (length t + 1 - n) (dictionary t) (drop at t)) (λ ms. done (lines ++ ms))
   pub counted : n ≡ length lines
   pub wrote : out ≡ sets old 0 (wideLines lines)
   pub ends : o ≡ length (wideLines lines)
@@ -108,20 +109,20 @@ module _ (t : Bytes) (at : ℕ) (r : Bool) (s : Starts t at (40 ∷ 100 ∷ 101 
 Kind : Bool → Line × Bytes → Type 0
 Kind b r = isExpression (r .0) ≡ b
 
-sentence-every : (n : ℕ) (ws : List Bytes) (i : Bytes) → after (bytes "(def ") i ≡ none → Every (Kind true) (readLine n ws i)
+sentence-every : (n : ℕ) (ws : List Bytes) (i : Bytes) → after (bytes "(def ") i ≡ none → Every (Kind true) (readLine operators n ws i)
 unfolding readLine isExpression Kind
-sentence-every n ws i k = rw (k, readLine) (given (readExpr n ws i) (λ r p. given (eat 10 (r .1)) (λ j q. holds refl)))
+sentence-every n ws i k = rw (k, readLine) (given (readExpr operators n ws i) (λ r p. given (eat 10 (r .1)) (λ j q. holds refl)))
 
-definition-every : (n : ℕ) (ws : List Bytes) (i i′ : Bytes) → after (bytes "(def ") i ≡ some i′ → Every (Kind false) (readLine n ws i)
+definition-every : (n : ℕ) (ws : List Bytes) (i i′ : Bytes) → after (bytes "(def ") i ≡ some i′ → Every (Kind false) (readLine operators n ws i)
 unfolding readLine readDefinition isExpression Kind
 definition-every n ws i i′ k =
-    rw (k, readLine) (given (readWord ws i′) (λ r p. given (spaced (readExpr n ws) (r .1)) (λ r₁ p₁. given (eat 41 (r₁ .1)) (λ j₁ q₁. given (eat 10 j₁) (λ j q. holds refl)))))
+    rw (k, readLine) (given (readWord ws i′) (λ r p. given (spaced (readExpr operators n ws) (r .1)) (λ r₁ p₁. given (eat 41 (r₁ .1)) (λ j₁ q₁. given (eat 10 j₁) (λ j q. holds refl)))))
 
-line-kind : (n : ℕ) (ws : List Bytes) (i j : Bytes) (v : Line) → readLine n ws i ≡ done (v, j) → after (bytes "(def ") i ≡ none → isExpression v ≡ true
+line-kind : (n : ℕ) (ws : List Bytes) (i j : Bytes) (v : Line) → readLine operators n ws i ≡ done (v, j) → after (bytes "(def ") i ≡ none → isExpression v ≡ true
 unfolding Kind
 line-kind n ws i j v h k = every-done (sentence-every n ws i k) h
 
-definition-kind : (n : ℕ) (ws : List Bytes) (i i′ j : Bytes) (v : Line) → readLine n ws i ≡ done (v, j) → after (bytes "(def ") i ≡ some i′ → isExpression v ≡ false
+definition-kind : (n : ℕ) (ws : List Bytes) (i i′ j : Bytes) (v : Line) → readLine operators n ws i ≡ done (v, j) → after (bytes "(def ") i ≡ some i′ → isExpression v ≡ false
 unfolding Kind
 definition-kind n ws i i′ j v h k = every-done (definition-every n ws i i′ k) h
 
@@ -136,7 +137,7 @@ module _ (t : Bytes) where
   lining-none out h = record {
     lines = [];
     old = out;
-    left = rw (sub-zero (length t + 1)) (bind-done (readLines (length t + 1) (dictionary t) t));
+    left = rw (sub-zero (length t + 1)) (bind-done (readLines operators (length t + 1) (dictionary t) t));
     counted = refl;
     wrote = refl;
     ends = refl;
@@ -151,7 +152,7 @@ module _ (t : Bytes) where
     pub lining-place : length t ≤ 4096 → Place t at o
     lining-place h = record { short = h; within = s .within; behind = s .behind }
 
-    end-left : length t ≤ at → readScript t ≡ done (s .lines)
+    end-left : length t ≤ at → readScript operators t ≡ done (s .lines)
     unfolding readLines
     end-left h =
         let w = s .within in
@@ -190,8 +191,8 @@ module _ (t : Bytes) where
       fuel : length t + 1 - n ≡ suc (length t - n)
       fuel = let f = s .fewer in omega arith
 
-      next-line : readLines (suc (length t - n)) (dictionary t) (drop at t)
-          ≡ _>>=_ {B = List Line} (readLine (suc (length t - n)) (dictionary t) (drop at t)) (λ r. _>>=_ {B = List Line} (readLines (length t - n) (dictionary t) (r .1)) (λ ls. done (r .0 ∷ ls)))
+      next-line : readLines operators (suc (length t - n)) (dictionary t) (drop at t)
+          ≡ _>>=_ {B = List Line} (readLine operators (suc (length t - n)) (dictionary t) (drop at t)) (λ r. _>>=_ {B = List Line} (readLines operators (length t - n) (dictionary t) (r .1)) (λ ls. done (r .0 ∷ ls)))
       unfolding readLines
       next-line = rw (drop-cons t at 0 h)
 
@@ -203,7 +204,7 @@ module _ (t : Bytes) where
           rw (s .left, fuel, next-line, z)
 
       abbrev LineAt : ℕ → ℕ → Type 0
-      LineAt i p = Read wideLine t at o out new (readLine (suc (length t - n)) (dictionary t) (drop at t)) i p
+      LineAt i p = Read wideLine t at o out new (readLine operators (suc (length t - n)) (dictionary t) (drop at t)) i p
 
       line-at : (i p : ℕ) → a ≡ step.Done i p → LineAt i p
       unfolding Reads Took lineOf
@@ -235,7 +236,7 @@ module _ (t : Bytes) where
           record {
             lines = s .lines ++ (x .value ∷ []);
             old = s .old;
-            left = s .left ∙ rw (fuel, next-line, x .is, y) (snoc (readLines (length t - n) (dictionary t) (drop i t)) (s .lines) (x .value));
+            left = s .left ∙ rw (fuel, next-line, x .is, y) (snoc (readLines operators (length t - n) (dictionary t) (drop i t)) (s .lines) (x .value));
             counted = omega (arith, length-append (s .lines) (x .value ∷ []));
             wrote = x .wrote ∙ ap (λ (z : List ℕ). sets z o (wideLine (x .value))) (s .wrote) ∙ rw e₀ (sets-append (wideLines (s .lines)) (wideLine (x .value)) (s .old) 0) ∙ ap (sets (s .old) 0) (sym q);
             ends = omega (arith, ap length q, length-append (wideLines (s .lines)) (wideLine (x .value)));

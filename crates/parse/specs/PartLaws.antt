@@ -8,6 +8,7 @@ use lib.Seq.{sets}
 use Rattle.atlite.specs.Base.{done, _>>=_}
 use Rattle.atlite.specs.Lexicon.{Bytes, dictionary}
 use Rattle.atlite.specs.Script.{Src, countSrcs}
+use Rattle.atlite.specs.Keywords.{operators}
 use Rattle.atlite.specs.Reader.{spaced, spacedWord, readExpr}
 use Rattle.words.specs.Wide.{wide, pair, wideSrc, wideSrcs}
 use Rattle.parse.specs.declared.Name.{Name}
@@ -26,10 +27,10 @@ use Rattle.parse.specs.FormLaws.{bind-assoc}
 -- ---- the last part itself
 module _ (t : Bytes) (at p o w : ℕ) (old m₁ new : List ℕ) (a : Step) (s : Reads wideSrc (spaceds t) t at p old m₁ a) where
   Spaced : ℕ → ℕ → ℕ → Type 0
-  Spaced n i q = Read wideSrc t at p old m₁ (spaced (readExpr n (dictionary t)) (drop at t)) i q
+  Spaced n i q = Read wideSrc t at p old m₁ (spaced (readExpr operators n (dictionary t)) (drop at t)) i q
 
   last-core : (n i q : ℕ) (r : Step) → Spaced n i q → Closed t i m₁ o w q new r
-      → TookPart 1 wideSrc (λ e. w) t at p old o new (readOne (readExpr n (dictionary t)) (drop at t)) r
+      → TookPart 1 wideSrc (λ e. w) t at p old o new (readOne (readExpr operators n (dictionary t)) (drop at t)) r
   unfolding TookPart Closed readOne Spaced
   last-core n i q (Done j l) x c =
       let b = x .short in
@@ -61,9 +62,9 @@ module _ (t : Bytes) (at p o k m : ℕ) (old m₁ new : List ℕ) (b : Listed) (
   unfolding Argued TookPart Lists TookList argsFrom readArgs
   argued-bad e n l = rw e at (s n l)
 
-  argued-core : (n l q c w : ℕ) (r : Step) → ListRead wideSrcs countSrcs 3 0 t at p old m₁ (readArgs (readExpr n (dictionary t)) (drop at t)) l q c
+  argued-core : (n l q c w : ℕ) (r : Step) → ListRead wideSrcs countSrcs 3 0 t at p old m₁ (readArgs (readExpr operators n (dictionary t)) (drop at t)) l q c
       → w ≡ wide k (pair m c) → r ≡ Done l q → new ≡ set m₁ o w
-      → TookPart 0 wideSrcs (λ es. wide k (pair m (countSrcs es))) t at p old o new (readArgs (readExpr n (dictionary t)) (drop at t)) r
+      → TookPart 0 wideSrcs (λ es. wide k (pair m (countSrcs es))) t at p old o new (readArgs (readExpr operators n (dictionary t)) (drop at t)) r
   unfolding TookPart
   argued-core n l q c w r x h e u =
       let b₁ = x .short in
@@ -88,18 +89,18 @@ module _ (t : Bytes) (at p o k m : ℕ) (old m₁ new : List ℕ) (b : Listed) (
 -- ---- behind an expression
 module _ (t : Bytes) (at o : ℕ) (old m₁ new : List ℕ) (a : Step) (s : Reads wideSrc (spaceds t) t at (o + 1) old m₁ a) (i p : ℕ) (e : a ≡ Done i p) where
   abbrev Before : ℕ → Type 0
-  Before n = Read wideSrc t at (o + 1) old m₁ (spaced (readExpr n (dictionary t)) (drop at t)) i p
+  Before n = Read wideSrc t at (o + 1) old m₁ (spaced (readExpr operators n (dictionary t)) (drop at t)) i p
 
   before : (n : ℕ) → length t - at < n → Before n
   unfolding Reads Took spaceds
   before n l = rw e at (s n l)
 
   twos-is : (n : ℕ) (f : Before n)
-      → twos t n (drop at t) ≡ _>>=_ {B = (Src × Src) × Bytes} (readOne (readExpr n (dictionary t)) (drop i t)) (λ r. done ((f .value, r .0), r .1))
+      → twos t n (drop at t) ≡ _>>=_ {B = (Src × Src) × Bytes} (readOne (readExpr operators n (dictionary t)) (drop i t)) (λ r. done ((f .value, r .0), r .1))
   unfolding twos readPair readOne
   twos-is n f = rw (f .is) (simp bind-assoc)
 
-  two-core : (n w : ℕ) (r : Step) → Before n → TookPart 1 wideSrc (λ e. w) t i p m₁ o new (readOne (readExpr n (dictionary t)) (drop i t)) r
+  two-core : (n w : ℕ) (r : Step) → Before n → TookPart 1 wideSrc (λ e. w) t i p m₁ o new (readOne (readExpr operators n (dictionary t)) (drop i t)) r
       → Took (twoWords w) t at o old new (twos t n (drop at t)) r
   unfolding Took TookPart twoWords
   two-core n w (Done l q) f z =
@@ -130,7 +131,7 @@ module _ (t : Bytes) (at o : ℕ) (old m₁ new : List ℕ) (a : Step) (s : Read
 module _ (t : Bytes) (at o : ℕ) (old m₁ new : List ℕ) (a : Step) (s : Reads wideSrc (spaceds t) t at (o + 1) old m₁ a) (i p : ℕ) (e : a ≡ Done i p)
     (x : Name) (v : SpacedName t i x) (y j : ℕ) (d : x ≡ Word y j) where
   abbrev First : ℕ → Type 0
-  First n = Read wideSrc t at (o + 1) old m₁ (spaced (readExpr n (dictionary t)) (drop at t)) i p
+  First n = Read wideSrc t at (o + 1) old m₁ (spaced (readExpr operators n (dictionary t)) (drop at t)) i p
 
   first : (n : ℕ) → length t - at < n → First n
   unfolding Reads Took spaceds
@@ -140,12 +141,12 @@ module _ (t : Bytes) (at o : ℕ) (old m₁ new : List ℕ) (a : Step) (s : Read
   Between = NameRead (spacedWord (dictionary t) (drop i t)) t i y j
 
   mids-is : (n : ℕ) (f : First n) → Between
-      → mids t n (drop at t) ≡ _>>=_ {B = (Src × ℕ × Src) × Bytes} (readOne (readExpr n (dictionary t)) (drop j t)) (λ r. done ((f .value, y, r .0), r .1))
+      → mids t n (drop at t) ≡ _>>=_ {B = (Src × ℕ × Src) × Bytes} (readOne (readExpr operators n (dictionary t)) (drop j t)) (λ r. done ((f .value, y, r .0), r .1))
   unfolding mids readMid readOne
   mids-is n f g = rw (f .is) (rw (g .is) (simp bind-assoc))
 
   mid-core : (n w k : ℕ) (r : Step) → First n → Between → w ≡ wide k y
-      → TookPart 1 wideSrc (λ e. w) t j p m₁ o new (readOne (readExpr n (dictionary t)) (drop j t)) r → Took (midWords k) t at o old new (mids t n (drop at t)) r
+      → TookPart 1 wideSrc (λ e. w) t j p m₁ o new (readOne (readExpr operators n (dictionary t)) (drop j t)) r → Took (midWords k) t at o old new (mids t n (drop at t)) r
   unfolding Took TookPart mids readMid midWords
   mid-core n w k (Done l q) f g h z =
       let b₁ = f .short in
@@ -174,7 +175,7 @@ module _ (t : Bytes) (at o : ℕ) (old m₁ new : List ℕ) (a : Step) (s : Read
       let f = first n l in let f₁ = f .far in let g = spaced-read t i x v y j d in let f₂ = g .far in mid-core n w k r f g h (u n (omega arith))
 
   send-core : (n k : ℕ) (r : Step) → First n → Between
-      → TookPart 0 wideSrcs (λ es. wide k (pair y (countSrcs es))) t j p m₁ o new (readArgs (readExpr n (dictionary t)) (drop j t)) r
+      → TookPart 0 wideSrcs (λ es. wide k (pair y (countSrcs es))) t j p m₁ o new (readArgs (readExpr operators n (dictionary t)) (drop j t)) r
       → Took (sendWords k) t at o old new (sends t n (drop at t)) r
   unfolding Took TookPart sends readSend sendWords
   send-core n k (Done l q) f g z =

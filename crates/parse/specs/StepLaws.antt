@@ -10,6 +10,7 @@ use lib.Seq.{sets, set-comm}
 use Rattle.atlite.specs.Base.{Result, done, refused, _>>=_}
 use Rattle.atlite.specs.Lexicon.{Bytes, dictionary}
 use Rattle.atlite.specs.Script.{Src, Srcs, countSrcs}
+use Rattle.atlite.specs.Keywords.{operators}
 use Rattle.atlite.specs.Reader.{Reading, eat, spaced, spacedWord, readItems, readExpr}
 use Rattle.layout.specs.Writes.{sets-append}
 use Rattle.words.specs.Wide.{wide, wideSrc, wideSrcs}
@@ -146,7 +147,7 @@ module _ (t : Bytes) (at o : ℕ) (old new : List ℕ) (r : Bool) (s : Starts t 
 
 -- ---- one expression, and two
 Spaced : Bytes → ℕ → ℕ → ℕ → List ℕ → List ℕ → ℕ → ℕ → Type 0
-Spaced t n at o old new i p = Read wideSrc t at o old new (spaced (readExpr n (dictionary t)) (drop at t)) i p
+Spaced t n at o old new i p = Read wideSrc t at o old new (spaced (readExpr operators n (dictionary t)) (drop at t)) i p
 
 module _ (t : Bytes) (at o : ℕ) (old m₁ new : List ℕ) (a : Step) (s : Reads wideSrc (spaceds t) t at (o + 1) old m₁ a) where
   module _ (n : ℕ) (l : length t - at < n) where
@@ -154,7 +155,7 @@ module _ (t : Bytes) (at o : ℕ) (old m₁ new : List ℕ) (a : Step) (s : Read
     unfolding Reads Took spaceds Spaced
     first i p e = rw e at (s n l)
 
-    first-bad : a ≡ Bad → spaced (readExpr n (dictionary t)) (drop at t) ≡ refused 2
+    first-bad : a ≡ Bad → spaced (readExpr operators n (dictionary t)) (drop at t) ≡ refused 2
     unfolding Reads Took spaceds
     first-bad e = rw e at (s n l)
 
@@ -221,7 +222,7 @@ module _ (t : Bytes) (at o : ℕ) (old m₁ new : List ℕ) (a : Step) (s : Read
 
 -- ---- arguments
 module _ (t : Bytes) (at o b : ℕ) (old new : List ℕ) (r : Bool) (s : Starts t at (41 ∷ []) r) where
-  args-end : (n k : ℕ) → r ≡ true → readItems Srcs.nil Srcs.cons (readExpr n (dictionary t)) k (drop at t) ≡ done (Srcs.nil, drop (at + 1) t)
+  args-end : (n k : ℕ) → r ≡ true → readItems Srcs.nil Srcs.cons (readExpr operators n (dictionary t)) k (drop at t) ≡ done (Srcs.nil, drop (at + 1) t)
   unfolding readItems
   args-end n zero e = rw (eat-starts t at 41 r s e)
   args-end n (suc k) e = rw (closes t at r s e, readItems)
@@ -248,8 +249,8 @@ module _ (t : Bytes) (at o b : ℕ) (old new : List ℕ) (r : Bool) (s : Starts 
     left : 3 - b ≡ suc (3 - (b + 1))
     left = omega arith
 
-    args-worse : (n k : ℕ) → spaced (readExpr n (dictionary t)) (drop at t) ≡ refused 2
-        → readItems Srcs.nil Srcs.cons (readExpr n (dictionary t)) (suc k) (drop at t) ≡ refused 2
+    args-worse : (n k : ℕ) → spaced (readExpr operators n (dictionary t)) (drop at t) ≡ refused 2
+        → readItems Srcs.nil Srcs.cons (readExpr operators n (dictionary t)) (suc k) (drop at t) ≡ refused 2
     unfolding readItems
     args-worse n k p = rw (open-still t at r s e, readItems) (rw p)
 
@@ -258,10 +259,10 @@ module _ (t : Bytes) (at o b : ℕ) (old new : List ℕ) (r : Bool) (s : Starts 
     args-bad d n l = rw left (args-worse n (3 - (b + 1)) (rw d at (u n l)))
 
     Tail : ℕ → ℕ → ℕ → ℕ → ℕ → ℕ → Type 0
-    Tail n i p k q c = ListRead wideSrcs countSrcs 3 (b + 1) t i p m₁ new (readItems Srcs.nil Srcs.cons (readExpr n (dictionary t)) (3 - (b + 1)) (drop i t)) k q c
+    Tail n i p k q c = ListRead wideSrcs countSrcs 3 (b + 1) t i p m₁ new (readItems Srcs.nil Srcs.cons (readExpr operators n (dictionary t)) (3 - (b + 1)) (drop i t)) k q c
 
     args-next : (n i p k q c : ℕ) → Spaced t n at o old m₁ i p → Tail n i p k q c
-        → ListRead wideSrcs countSrcs 3 b t at o old new (readItems Srcs.nil Srcs.cons (readExpr n (dictionary t)) (suc (3 - (b + 1))) (drop at t)) k q c
+        → ListRead wideSrcs countSrcs 3 b t at o old new (readItems Srcs.nil Srcs.cons (readExpr operators n (dictionary t)) (suc (3 - (b + 1))) (drop at t)) k q c
     unfolding readItems wideSrc countSrcs Spaced Tail
     args-next n i p k q c x y =
         let b₁ = x .short in
@@ -283,9 +284,9 @@ module _ (t : Bytes) (at o b : ℕ) (old new : List ℕ) (r : Bool) (s : Starts 
           few = y .few;
         }
 
-    args-last : (n i : ℕ) (v : Src) → spaced (readExpr n (dictionary t)) (drop at t) ≡ done (v, drop i t)
-        → readItems Srcs.nil Srcs.cons (readExpr n (dictionary t)) (3 - (b + 1)) (drop i t) ≡ refused 2
-        → readItems Srcs.nil Srcs.cons (readExpr n (dictionary t)) (suc (3 - (b + 1))) (drop at t) ≡ refused 2
+    args-last : (n i : ℕ) (v : Src) → spaced (readExpr operators n (dictionary t)) (drop at t) ≡ done (v, drop i t)
+        → readItems Srcs.nil Srcs.cons (readExpr operators n (dictionary t)) (3 - (b + 1)) (drop i t) ≡ refused 2
+        → readItems Srcs.nil Srcs.cons (readExpr operators n (dictionary t)) (suc (3 - (b + 1))) (drop at t) ≡ refused 2
     unfolding readItems
     args-last n i v x y = rw (open-still t at r s e, readItems) (rw x (rw y))
 

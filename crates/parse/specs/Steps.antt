@@ -10,7 +10,8 @@ use Rattle.atlite.specs.Base.{Result, done, refused, _>>=_, orRefuse}
 use Rattle.atlite.specs.Lexicon.{Bytes, close, dictionary}
 use Rattle.atlite.specs.Script.{Src, Srcs, SrcFields, SrcMethods, countSrcs}
 use Rattle.atlite.specs.Table.{countFields, countMethods}
-use Rattle.atlite.specs.Reader.{Reading, operators, operator, item, eat, readWord, spaced, spacedWord, readItems, readFields, readMethods, readForm, readExpr}
+use Rattle.atlite.specs.Reader.{Reading, operator, item, eat, readWord, spaced, spacedWord, readItems, readFields, readMethods, readForm, readExpr}
+use Rattle.atlite.specs.Keywords.{operators}
 use Rattle.words.specs.Wide.{wide, pair, wideSrc, wideSrcs, wideFields, wideMethods}
 use Rattle.parse.specs.Heads.{readHeader}
 use Rattle.parse.specs.declared.Step.{Step}
@@ -55,10 +56,10 @@ Closed t j old o w q new Bad = eat 41 (drop j t) ≡ refused 2
 
 -- ---- the readers by shape, over the reader of expressions
 unfoldable pub exprs : Bytes → ℕ → Reading Src
-exprs t n i = readExpr n (dictionary t) i
+exprs t n i = readExpr operators n (dictionary t) i
 
 unfoldable pub spaceds : Bytes → ℕ → Reading Src
-spaceds t n i = spaced (readExpr n (dictionary t)) i
+spaceds t n i = spaced (readExpr operators n (dictionary t)) i
 
 -- an expression, then the closing bracket; its words stand behind w
 unfoldable pub readOne : Reading Src → Reading Src
@@ -68,7 +69,7 @@ readOne R i = do
   done (e, i₂)
 
 unfoldable pub ones : Bytes → ℕ → Reading Src
-ones t n i = readOne (readExpr n (dictionary t)) i
+ones t n i = readOne (readExpr operators n (dictionary t)) i
 
 unfoldable pub oneWords : ℕ → Src → List ℕ
 oneWords w e = w ∷ wideSrc e
@@ -82,7 +83,7 @@ readPair R i = do
   done ((e, d), i₃)
 
 unfoldable pub twos : Bytes → ℕ → Reading (Src × Src)
-twos t n i = readPair (readExpr n (dictionary t)) i
+twos t n i = readPair (readExpr operators n (dictionary t)) i
 
 unfoldable pub twoWords : ℕ → Src × Src → List ℕ
 twoWords w v = w ∷ (wideSrc (v .0) ++ wideSrc (v .1))
@@ -96,7 +97,7 @@ readGet ws R i = do
   done ((e, f), i₃)
 
 unfoldable pub gets : Bytes → ℕ → Reading (Src × ℕ)
-gets t n i = readGet (dictionary t) (readExpr n (dictionary t)) i
+gets t n i = readGet (dictionary t) (readExpr operators n (dictionary t)) i
 
 unfoldable pub getWords : Src × ℕ → List ℕ
 getWords v = wide 9 (v .1) ∷ wideSrc (v .0)
@@ -111,7 +112,7 @@ readMid ws R i = do
   done ((e, x, d), i₄)
 
 unfoldable pub mids : Bytes → ℕ → Reading (Src × ℕ × Src)
-mids t n i = readMid (dictionary t) (readExpr n (dictionary t)) i
+mids t n i = readMid (dictionary t) (readExpr operators n (dictionary t)) i
 
 unfoldable pub midWords : ℕ → Src × ℕ × Src → List ℕ
 midWords k v = wide k (v .1) ∷ (wideSrc (v .0) ++ wideSrc (v .2))
@@ -128,7 +129,7 @@ readSend ws R i = do
   done ((e, m, es), i₃)
 
 unfoldable pub sends : Bytes → ℕ → Reading (Src × ℕ × Srcs)
-sends t n i = readSend (dictionary t) (readExpr n (dictionary t)) i
+sends t n i = readSend (dictionary t) (readExpr operators n (dictionary t)) i
 
 unfoldable pub sendWords : ℕ → Src × ℕ × Srcs → List ℕ
 sendWords k v = wide k (pair (v .1) (countSrcs (v .2))) ∷ (wideSrc (v .0) ++ wideSrcs (v .2))
@@ -138,7 +139,7 @@ unfoldable pub formBy : ℕ → List Bytes → Reading Src → Reading Src
 formBy k ws R i = elim (getElem? (map (λ r. r .1) operators) k) [ none ↦ refused 2 | some o ↦ readForm o ws R i ]
 
 unfoldable pub forms : ℕ → Bytes → ℕ → Reading Src
-forms k t n i = formBy k (dictionary t) (readExpr n (dictionary t)) i
+forms k t n i = formBy k (dictionary t) (readExpr operators n (dictionary t)) i
 
 -- ---- lists: c is the count with those before
 pub record ListRead {A : Type 0} (enc : A → List ℕ) (num : A → ℕ) (most b : ℕ) (t : Bytes) (at o : ℕ) (old new : List ℕ) (R : Result (A × Bytes)) (i p c : ℕ) : Type 0 where
@@ -160,17 +161,17 @@ unfoldable pub Lists : {A : Type 0} → (A → List ℕ) → (A → ℕ) → ℕ
 Lists enc num most b R t at o old new r = (n : ℕ) → length t - at < n → TookList enc num most b t at o old new (R n (drop at t)) r
 
 unfoldable pub argsFrom : ℕ → Bytes → ℕ → Reading Srcs
-argsFrom b t n i = readItems Srcs.nil Srcs.cons (readExpr n (dictionary t)) (3 - b) i
+argsFrom b t n i = readItems Srcs.nil Srcs.cons (readExpr operators n (dictionary t)) (3 - b) i
 
 unfoldable pub fieldsFrom : ℕ → Bytes → ℕ → Reading SrcFields
-fieldsFrom b t n i = readFields (dictionary t) (readExpr n (dictionary t)) (4 - b) i
+fieldsFrom b t n i = readFields (dictionary t) (readExpr operators n (dictionary t)) (4 - b) i
 
 unfoldable pub methodsFrom : ℕ → Bytes → ℕ → Reading SrcMethods
-methodsFrom b t n i = readMethods (dictionary t) (readExpr n (dictionary t)) (4 - b) i
+methodsFrom b t n i = readMethods (dictionary t) (readExpr operators n (dictionary t)) (4 - b) i
 
 -- an operator and its form
 unfoldable pub brackets : Bytes → ℕ → Reading Src
-brackets t n i = orRefuse 2 (operator (item i .0)) >>= λ o. readForm o (dictionary t) (readExpr n (dictionary t)) (item i .1)
+brackets t n i = orRefuse 2 (spelled operators (item i .0)) >>= λ o. readForm o (dictionary t) (readExpr operators n (dictionary t)) (item i .1)
 
 -- the parts of a literal
 unfoldable pub readLiteral : List Bytes → Reading Src → Reading (SrcFields × SrcMethods)
@@ -181,7 +182,7 @@ readLiteral ws R i = do
   done ((fs, ms), i₃)
 
 unfoldable pub literals : Bytes → ℕ → Reading (SrcFields × SrcMethods)
-literals t n i = readLiteral (dictionary t) (readExpr n (dictionary t)) i
+literals t n i = readLiteral (dictionary t) (readExpr operators n (dictionary t)) i
 
 unfoldable pub literalWords : ℕ → SrcFields × SrcMethods → List ℕ
 literalWords k v = wide k (countFields (v .0) + 8 * countMethods (v .1)) ∷ (wideFields (v .0) ++ wideMethods (v .1))
@@ -190,15 +191,15 @@ literalWords k v = wide k (countFields (v .0) + 8 * countMethods (v .1)) ∷ (wi
 unfoldable pub fieldAt : ℕ → Bytes → ℕ → Reading SrcFields
 fieldAt b t n i = do
   (f, i₁) ← readWord (dictionary t) i
-  (e, i₂) ← readOne (readExpr n (dictionary t)) i₁
-  (fs, i₃) ← readFields (dictionary t) (readExpr n (dictionary t)) (4 - (b + 1)) i₂
+  (e, i₂) ← readOne (readExpr operators n (dictionary t)) i₁
+  (fs, i₃) ← readFields (dictionary t) (readExpr operators n (dictionary t)) (4 - (b + 1)) i₂
   done (SrcFields.field f e fs, i₃)
 
 unfoldable pub methodAt : ℕ → Bytes → ℕ → Reading SrcMethods
 methodAt b t n i = do
   (v, i₁) ← readHeader (dictionary t) i
-  (e, i₂) ← readOne (readExpr n (dictionary t)) i₁
-  (ms, i₃) ← readMethods (dictionary t) (readExpr n (dictionary t)) (4 - (b + 1)) i₂
+  (e, i₂) ← readOne (readExpr operators n (dictionary t)) i₁
+  (ms, i₃) ← readMethods (dictionary t) (readExpr operators n (dictionary t)) (4 - (b + 1)) i₂
   done (SrcMethods.method (v .0) (v .1) e ms, i₃)
 
 -- the last expression of a form, or its arguments, with the head word w at o and the words of the part at p
@@ -216,12 +217,12 @@ TookPart s enc head t at p old o new R (Done i q) = PartRead s enc head t at p o
 TookPart s enc head t at p old o new R Bad = R ≡ refused 2
 
 unfoldable pub Lasts : ℕ → Bytes → ℕ → ℕ → List ℕ → ℕ → List ℕ → Step → Type 0
-Lasts w t at p old o new r = (n : ℕ) → length t - at < n → TookPart 1 wideSrc (λ e. w) t at p old o new (readOne (readExpr n (dictionary t)) (drop at t)) r
+Lasts w t at p old o new r = (n : ℕ) → length t - at < n → TookPart 1 wideSrc (λ e. w) t at p old o new (readOne (readExpr operators n (dictionary t)) (drop at t)) r
 
 unfoldable pub Argued : ℕ → ℕ → Bytes → ℕ → ℕ → List ℕ → ℕ → List ℕ → Step → Type 0
 Argued k m t at p old o new r =
     (n : ℕ) → length t - at < n
-    → TookPart 0 wideSrcs (λ es. wide k (pair m (countSrcs es))) t at p old o new (readArgs (readExpr n (dictionary t)) (drop at t)) r
+    → TookPart 0 wideSrcs (λ es. wide k (pair m (countSrcs es))) t at p old o new (readArgs (readExpr operators n (dictionary t)) (drop at t)) r
 
 -- methods to the closing bracket of a literal with c fields
 unfoldable pub readRest : List Bytes → Reading Src → Reading SrcMethods
@@ -244,4 +245,4 @@ TookEnd k c t at p old o new R (Done i q) = EndRead k c t at p old o new R i q
 TookEnd k c t at p old o new R Bad = R ≡ refused 2
 
 unfoldable pub Ended : ℕ → ℕ → Bytes → ℕ → ℕ → List ℕ → ℕ → List ℕ → Step → Type 0
-Ended k c t at p old o new r = (n : ℕ) → length t - at < n → TookEnd k c t at p old o new (readRest (dictionary t) (readExpr n (dictionary t)) (drop at t)) r
+Ended k c t at p old o new r = (n : ℕ) → length t - at < n → TookEnd k c t at p old o new (readRest (dictionary t) (readExpr operators n (dictionary t)) (drop at t)) r

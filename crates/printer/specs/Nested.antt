@@ -13,9 +13,10 @@ use Rattle.atlite.specs.Term.{this, Kind}
 use Rattle.atlite.specs.Lexicon.{Bytes, inWord, isLetter, isDigit}
 use Rattle.atlite.specs.Valid.{isName, wordsHold}
 use Rattle.atlite.specs.Script.{SrcOp, Src, num, null, var, op, letIn, future, fn, when, literal, Srcs, nil, cons, SrcFields, noField, field, SrcMethods, noMethod, method, Line, expression, define, countSrcs}
-use Rattle.atlite.specs.Printer.{Printer, srcWord, srcNames, placed, digits, printNumber, printItems, form, printWord, printKind, print, printAll, printFields, printMethods, printLine, printScript}
+use Rattle.atlite.specs.Printer.{Printer, srcNames, placed, digits, printNumber, printItems, form, printWord, print, printAll, printFields, printMethods, printLine, printScript}
+use Rattle.atlite.specs.Keywords.{srcWord, printKind, bare, naming}
 use Rattle.atlite.specs.Table.{writable, Named, Grammatical, GrammaticalAll, GrammaticalFields, GrammaticalMethods, GrammaticalLines}
-use Rattle.atlite.specs.Reader.{depthFrom, depth, bare, naming}
+use Rattle.atlite.specs.Reader.{depthFrom, depth}
 use Rattle.atlite.specs.Facts.{and₂}
 use Rattle.reading.specs.Items.{word-parts, operator-writes, OpRead, nameless, named, op-read}
 use Rattle.reading.specs.Words.{name-word}

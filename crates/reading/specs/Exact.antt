@@ -14,6 +14,7 @@ use Rattle.atlite.specs.Lexicon.{Bytes, wordsOf, dictionary}
 use Rattle.atlite.specs.Script.{Src, Line, size, join}
 use Rattle.atlite.specs.Scope.{bound, single}
 use Rattle.atlite.specs.Printer.{printScript}
+use Rattle.atlite.specs.Keywords.{operators}
 use Rattle.atlite.specs.Reader.{depth, readLines, readScript}
 use Rattle.atlite.specs.Valid.{wordsHold}
 use Rattle.atlite.specs.Table.{Table, read, textOf, GrammaticalLines, IsTable}
@@ -24,13 +25,13 @@ use Rattle.reading.specs.Complete.{lines-take}
 
 -- cause 2 by itself: the lines that are read are the grammatical ones that print as the text under its dictionary
 pub script-exact : (t : Bytes) (ls : List Line)
-    → (readScript t ≡ done ls) ↔ (GrammaticalLines (length (dictionary t)) ls × (printScript (dictionary t) ls ≡ t))
+    → (readScript operators t ≡ done ls) ↔ (GrammaticalLines (length (dictionary t)) ls × (printScript (dictionary t) ls ≡ t))
 unfolding readScript
 script-exact t ls = (
   λ h. every-done (lines-sound (dictionary t) (length t + 1) t) h,
   λ h.
       let l : length (printScript (dictionary t) ls) ≡ length t = ap length (h .1) in
-      ap (readLines (length t + 1) (dictionary t)) (sym (h .1))
+      ap (readLines operators (length t + 1) (dictionary t)) (sym (h .1))
       ∙ lines-take (dictionary t) (dictionary-holds t) ls (length t + 1) (h .0) (omega arith),
 )
 
@@ -42,7 +43,7 @@ limits t e h =
     (leb-true (depth t) 32 (q .0), leb-true (length (wordsOf t)) 64 (q .1), leb-true (size e) 512 (p .1))
 
 -- From the reader to the table: each test that was passed is a condition of `IsTable`, carried over to the text printed.
-read-sound : (t : Bytes) → Every (λ T. IsTable T × (textOf T ≡ t)) (read t)
+read-sound : (t : Bytes) → Every (λ T. IsTable T × (textOf T ≡ t)) (read operators t)
 unfolding read readScript textOf
 read-sound t =
     checked 1 (ltb 0 (length t) && leb (length t) 4096) (λ h₁. every-bind (lines-sound (dictionary t) (length t + 1) t) (λ ls p.
@@ -69,9 +70,9 @@ read-sound t =
     )))))))
 
 -- from the table to the reader: all tests pass
-read-of : (t : Bytes) (ls : List Line) (e : Src) → 0 < length t → length t ≤ 4096 → readScript t ≡ done ls → join ls ≡ done e
+read-of : (t : Bytes) (ls : List Line) (e : Src) → 0 < length t → length t ≤ 4096 → readScript operators t ≡ done ls → join ls ≡ done e
     → bound [] e ≡ true → single e ≡ true
-    → depth t ≤ 32 → length (wordsOf t) ≤ 64 → size e ≤ 512 → read t ≡ done (record { words = dictionary t; lines = ls })
+    → depth t ≤ 32 → length (wordsOf t) ≤ 64 → size e ≤ 512 → read operators t ≡ done (record { words = dictionary t; lines = ls })
 unfolding read require
 read-of t ls e a b r j x y c d f =
     rw (
@@ -95,7 +96,7 @@ table-count T h =
     let k = h .known in
     transp (λ ws. length ws ≤ 64) (sym (h .words)) (omega arith)
 
-pub table-read : (T : Table) → IsTable T → read (textOf T) ≡ done T
+pub table-read : (T : Table) → IsTable T → read operators (textOf T) ≡ done T
 unfolding textOf
 table-read T h =
     let t = textOf T in
@@ -106,14 +107,14 @@ table-read T h =
     ∙ ap (λ ws. done (record { words = ws; lines = T .lines })) (sym (h .words))
 
 -- The law of the reader, and what follows at once.
-pub read-exact : (t : Bytes) (T : Table) → (read t ≡ done T) ↔ (IsTable T × (textOf T ≡ t))
-read-exact t T = (λ h. every-done (read-sound t) h, λ h. transp (λ i. read i ≡ done T) (h .1) (table-read T (h .0)))
+pub read-exact : (t : Bytes) (T : Table) → (read operators t ≡ done T) ↔ (IsTable T × (textOf T ≡ t))
+read-exact t T = (λ h. every-done (read-sound t) h, λ h. transp (λ i. read operators i ≡ done T) (h .1) (table-read T (h .0)))
 
-pub read-table : (t : Bytes) (T : Table) → read t ≡ done T → IsTable T
+pub read-table : (t : Bytes) (T : Table) → read operators t ≡ done T → IsTable T
 read-table t T h = read-exact t T .0 h .0
 
-pub print-read : (t : Bytes) (T : Table) → read t ≡ done T → textOf T ≡ t
+pub print-read : (t : Bytes) (T : Table) → read operators t ≡ done T → textOf T ≡ t
 print-read t T h = read-exact t T .0 h .1
 
-pub table-test : (T : Table) → (read (textOf T) ≡ done T) ↔ IsTable T
+pub table-test : (T : Table) → (read operators (textOf T) ≡ done T) ↔ IsTable T
 table-test T = (read-table (textOf T) T, table-read T)

@@ -12,12 +12,13 @@ use lib.ListN.{length, length-append}
 use lib.Dec.{eqb, leb}
 use borrow.Author.Tests.{eqb-true, leb-true, eq-eqb, le-leb}
 use Rattle.atlite.specs.Base.{Base, bytes, if_then_else_, sameBytes, all}
-use Rattle.atlite.specs.Lexicon.{Bytes, inWord, isLetter, isDigit, letterFirst, isWord, among, reserved}
+use Rattle.atlite.specs.Lexicon.{Bytes, inWord, isLetter, isDigit, letterFirst, isWord, among}
 use Rattle.atlite.specs.Term.{Term·all, plain, plus, percent, get, set, call, send, Kind, object, isolate, actor}
 use Rattle.atlite.specs.Valid.{All, isName, callable, sendable, operable}
 use Rattle.atlite.specs.Script.{SrcOp, kept, ask, resolve, seq, srcShape}
-use Rattle.atlite.specs.Printer.{Printer, printItems, form, printWord, printKind, srcWord, srcNames, placed}
-use Rattle.atlite.specs.Reader.{item, eat, after, Operator, bare, naming, letIn, future, fn, when, literal, least, more, spelled, operators, operator}
+use Rattle.atlite.specs.Printer.{Printer, printItems, form, printWord, srcNames, placed}
+use Rattle.atlite.specs.Keywords.{printKind, srcWord, reserved, Operator, bare, naming, letIn, future, fn, when, literal, operators, letWord, futureWord, fnWord, whenWord, spelling}
+use Rattle.atlite.specs.Reader.{item, eat, after, least, more, spelled}
 use Rattle.atlite.specs.Table.{writable}
 use Rattle.atlite.specs.Facts.{none-some, and₂, both₂, same-true, Every, holds, nothing, checked}
 
@@ -145,10 +146,10 @@ Writes w (bare o) = (srcWord o ≡ w) × ((ws : List Bytes) → srcNames ws o �
 Writes w (naming c) =
     (x : ℕ) → (srcWord (c x) ≡ w) × ((ws : List Bytes) → srcNames ws (c x) ≡ printWord ws x ∷ [])
     × (0 < least (srcShape (c x))) × Asks (c x) (λ w. isName w x)
-Writes w letIn = bytes "let" ≡ w
-Writes w future = bytes "future" ≡ w
-Writes w fn = bytes "fn" ≡ w
-Writes w when = bytes "when" ≡ w
+Writes w letIn = letWord ≡ w
+Writes w future = futureWord ≡ w
+Writes w fn = fnWord ≡ w
+Writes w when = whenWord ≡ w
 Writes w (literal k) = printKind k ≡ w
 
 -- the two ways to ask for operands: so many, or a receiver and at most three arguments
@@ -175,14 +176,14 @@ send-few w m n h = receiver-asks (operable w (send (plain m))) (isName w m) refl
 
 -- what the words of operators and forms compute by
 unfoldable pub Words : Unit {0}
-unfolding Term·all Printer operators spelled operator inWord isLetter isDigit callable sendable Base
+unfolding Term·all Printer spelled inWord isLetter isDigit callable sendable Base
 Words = tt
 
 row : {A B : Type 0} → A → B → A × B
 row h r = (h, r)
 
 -- the table of the reader, row by row
-rows : All (λ r. Writes (r .0) (r .1)) operators
+rows : All (λ o. Writes (spelling o) o) operators
 unfolding Words
 rows =
     row (refl, λ ws. refl, λ w n. exactly-asks true 2 n)
@@ -202,23 +203,21 @@ rows =
     (row refl
     (row refl tt)))))))))))))))
 
-spelled-row : (rs : List (Bytes × Operator)) (w : Bytes) (o : Operator) → All (λ r. Writes (r .0) (r .1)) rs → spelled rs w ≡ some o → Writes w o
+found-writes : (os : List Operator) (w : Bytes) (o : Operator) → All (λ o. Writes (spelling o) o) os → spelled os w ≡ some o → Writes w o
 unfolding spelled if_then_else_
-spelled-row [] w o a h = absurd (none-some h)
-spelled-row (r ∷ rs) w o a h = go (sameBytes (r .0) w) refl h (spelled-row rs w o (a .1))
+found-writes [] w o a h = absurd (none-some h)
+found-writes (r ∷ os) w o a h = go (sameBytes (spelling r) w) refl h (found-writes os w o (a .1))
   where
-    go : (t : Bool) → sameBytes (r .0) w ≡ t → (if t then some (r .1) else spelled rs w) ≡ some o → (spelled rs w ≡ some o → Writes w o)
-        → Writes w o
-    go true e p ih = let q : r .1 ≡ o = cc in rw (← same-true (r .0) w e, ← q) (a .0)
+    go : (t : Bool) → sameBytes (spelling r) w ≡ t → (if t then some r else spelled os w) ≡ some o → (spelled os w ≡ some o → Writes w o) → Writes w o
+    go true e p ih = let q : r ≡ o = cc in rw (← same-true (spelling r) w e, ← q) (a .0)
     go false e p ih = ih p
 
-pub operator-writes : (w : Bytes) (o : Operator) → operator w ≡ some o → Writes w o
-unfolding operator
-operator-writes w o h = spelled-row operators w o rows h
+pub operator-writes : (w : Bytes) (o : Operator) → spelled operators w ≡ some o → Writes w o
+operator-writes w o h = found-writes operators w o rows h
 
 -- the word is read as the operator, and is a run of letters
 abbrev pub Spelt : Bytes → Operator → Type 0
-Spelt w o = (operator w ≡ some o) × (all inWord w ≡ true)
+Spelt w o = (spelled operators w ≡ some o) × (all inWord w ≡ true)
 
 -- how the word of an operator is read, so that the operator comes back with its name
 pub data OpRead : SrcOp → Type 0 where

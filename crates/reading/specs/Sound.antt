@@ -14,7 +14,8 @@ use Rattle.atlite.specs.Term.{this}
 use Rattle.atlite.specs.Lexicon.{Bytes, isWord, isNumber, numberOf}
 use Rattle.atlite.specs.Script.{Src, nil, cons, noField, field, noMethod, method, Line, expression, define, countSrcs, srcShape}
 use Rattle.atlite.specs.Printer.{Printer, form, printWord, known, print, printAll, printFields, printMethods, printLine, printScript, placed}
-use Rattle.atlite.specs.Reader.{Reading, item, after, atom, readAtom, readWord, spaced, spacedWord, readItems, readOperands, readParams, readNames, readHead, readFields, readMethods, Operator, bare, naming, letIn, future, fn, when, literal, operator, least, more, readForm, readExpr, readDefinition, readLine, readLines}
+use Rattle.atlite.specs.Reader.{Reading, item, after, atom, readAtom, readWord, spaced, spacedWord, readItems, readOperands, readParams, readNames, readHead, readFields, readMethods, least, more, spelled, readForm, readExpr, readDefinition, readLine, readLines}
+use Rattle.atlite.specs.Keywords.{Operator, bare, naming, letIn, future, fn, when, literal, operators}
 use Rattle.atlite.specs.Valid.{isName}
 use Rattle.atlite.specs.Table.{countFields, countMethods, Named, Grammatical, GrammaticalAll, GrammaticalFields, GrammaticalMethods, GrammaticalLines}
 use Rattle.atlite.specs.Facts.{both₂, or-right, same-true, Every, holds, nothing, every-bind, every-weaken, checked, every-found, every-if, every-test, every-option}
@@ -174,14 +175,14 @@ module _ (ws : List Bytes) where
         let t = behind-append (printFields ws fs) (printMethods ws ms) (41 ∷ j) in
         holds ((p .0, p .1, q .0, q .1), built z (printFields ws fs ++ printMethods ws ms) i j (cc (t, p .2, q .2, u))))))
 
-  pub expr-sound : (n : ℕ) → Sound (Grammatical (length ws)) (print ws) (readExpr n ws)
+  pub expr-sound : (n : ℕ) → Sound (Grammatical (length ws)) (print ws) (readExpr operators n ws)
   unfolding readExpr
   expr-sound zero i = nothing
   expr-sound (suc n) [] = nothing
   expr-sound (suc n) (b ∷ i) =
       every-test (eqb b 40)
-      (λ h. every-found 2 (operator (item i .0)) (λ o e.
-      every-weaken (form-sound (readExpr n ws) (λ j. expr-sound n j) o (item i .0) (item i .1) (operator-writes (item i .0) o e)) (λ r p.
+      (λ h. every-found 2 (spelled operators (item i .0)) (λ o e.
+      every-weaken (form-sound (readExpr operators n ws) (λ j. expr-sound n j) o (item i .0) (item i .1) (operator-writes (item i .0) o e)) (λ r p.
       (p .0, p .1 ∙ ap₂ {C = Bytes} (λ c j. c ∷ j) (sym (eqb-true b 40 h)) (item-whole i)))))
       (λ _. readAtom-sound (b ∷ i))
 
@@ -189,14 +190,14 @@ module _ (ws : List Bytes) where
   GrammaticalLine (expression e) = Grammatical (length ws) e
   GrammaticalLine (define x e) = Named (length ws) x × Grammatical (length ws) e
 
-  line-sound : (n : ℕ) (i : Bytes) → Every (λ r. GrammaticalLine (r .0) × (printLine ws (r .0) ++ r .1 ≡ i)) (readLine n ws i)
+  line-sound : (n : ℕ) (i : Bytes) → Every (λ r. GrammaticalLine (r .0) × (printLine ws (r .0) ++ r .1 ≡ i)) (readLine operators n ws i)
   unfolding readLine readDefinition printLine Base
   line-sound n i =
       every-option (after (bytes "(def ") i)
       (λ _. every-bind (expr-sound n i) (λ (e, i₁) p. every-bind (eat-reads 10 i₁) (λ j u.
       holds (p .0, cc (append-assoc (print ws e) (10 ∷ []) j, p .1, u)))))
       (λ i₁ h. every-bind (word-sound i₁) (λ (x, i₂) v.
-      every-bind (spaced-sound (Grammatical (length ws)) (print ws) (readExpr n ws) (expr-sound n) i₂) (λ (e, i₃) p.
+      every-bind (spaced-sound (Grammatical (length ws)) (print ws) (readExpr operators n ws) (expr-sound n) i₂) (λ (e, i₃) p.
       every-bind (eat-reads 41 i₃) (λ i₄ u. every-bind (eat-reads 10 i₄) (λ j y.
       let w = form (bytes "def" ∷ printWord ws x ∷ print ws e ∷ []) in
       let t = form-closing (bytes "def") (printWord ws x ∷ print ws e ∷ []) (10 ∷ j) in
@@ -208,7 +209,7 @@ module _ (ws : List Bytes) where
   lines-grammatical (expression e) ls = (λ g. g, λ g. g)
   lines-grammatical (define x e) ls = (λ g. ((g .0, g .1), g .2), λ g. (g .0 .0, g .0 .1, g .1))
 
-  pub lines-sound : (n : ℕ) (i : Bytes) → Every (λ ls. GrammaticalLines (length ws) ls × (printScript ws ls ≡ i)) (readLines n ws i)
+  pub lines-sound : (n : ℕ) (i : Bytes) → Every (λ ls. GrammaticalLines (length ws) ls × (printScript ws ls ≡ i)) (readLines operators n ws i)
   unfolding readLines printScript GrammaticalLines
   lines-sound zero i = nothing
   lines-sound (suc n) [] = holds {a = []} (tt, refl)

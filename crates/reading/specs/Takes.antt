@@ -14,6 +14,7 @@ use Rattle.atlite.specs.Term.{this, top}
 use Rattle.atlite.specs.Lexicon.{Lexicon, Bytes, isLetter, isDigit, inWord, letterFirst, isWord, isNumber}
 use Rattle.atlite.specs.Script.{Src}
 use Rattle.atlite.specs.Printer.{Printer, form, printWord, known, printNumber}
+use Rattle.atlite.specs.Keywords.{operators}
 use Rattle.atlite.specs.Reader.{Reading, eat, after, atom, readAtom, readWord, spaced, readItems, readParams, readNames, readHead, readExpr}
 use Rattle.atlite.specs.Valid.{isName, wordsHold}
 use Rattle.atlite.specs.Table.{Named}
@@ -109,27 +110,27 @@ module _ (ws : List Bytes) (held : wordsHold ws ≡ true) where
   num-atom n h = rw (print-number n h) (ap (λ m. done (Src.num m)) (decimal-print n h))
 
   -- an atom is read as such wherever an expression may stand, with any fuel
-  atom-takes : (n : ℕ) → 0 < n → (w : Bytes) (e : Src) → all inWord w ≡ true → atom ws w ≡ done e → Takes (readExpr n ws) w e
+  atom-takes : (n : ℕ) → 0 < n → (w : Bytes) (e : Src) → all inWord w ≡ true → atom ws w ≡ done e → Takes (readExpr operators n ws) w e
   unfolding readExpr readAtom all atom Base Lexicon
   atom-takes zero l w e h p j d = absurd (omega arith)
   atom-takes (suc n) l [] e h p j d = absurd (refused-done p)
   atom-takes (suc n) l (b ∷ w) e h p j d =
       rw (no-open b (and₂ (inWord b) (all inWord w) h .0), readExpr) (rw (item-run (b ∷ w) j h d, p))
 
-  pub num-takes : (n m : ℕ) → 0 < n → m ≤ top → Takes (readExpr n ws) (printNumber m) (Src.num m)
+  pub num-takes : (n m : ℕ) → 0 < n → m ≤ top → Takes (readExpr operators n ws) (printNumber m) (Src.num m)
   num-takes n m l h =
       atom-takes n l (printNumber m) (Src.num m) (number-run (printNumber m) (number-digits (printNumber m) (print-number m h))) (num-atom m h)
 
-  pub null-takes : (n : ℕ) → 0 < n → Takes (readExpr n ws) (bytes "null") Src.null
+  pub null-takes : (n : ℕ) → 0 < n → Takes (readExpr operators n ws) (bytes "null") Src.null
   unfolding atom Base Lexicon
   null-takes n l = atom-takes n l (bytes "null") Src.null refl refl
 
-  pub var-takes : (n x : ℕ) → 0 < n → (eqb x this || isName (length ws) x) ≡ true → Takes (readExpr n ws) (printWord ws x) (Src.var x)
+  pub var-takes : (n x : ℕ) → 0 < n → (eqb x this || isName (length ws) x) ≡ true → Takes (readExpr operators n ws) (printWord ws x) (Src.var x)
   unfolding atom printWord known Base Lexicon
   var-takes n x l h = go (eqb x this) refl h
     where
       Var : ℕ → Type 0
-      Var y = Takes (readExpr n ws) (printWord ws y) (Src.var y)
+      Var y = Takes (readExpr operators n ws) (printWord ws y) (Src.var y)
 
       go : (b : Bool) → eqb x this ≡ b → (b || isName (length ws) x) ≡ true → Var x
       go true e k = transp Var (sym (eqb-true x this e)) (atom-takes n l (bytes "this") (Src.var this) refl refl)

@@ -13,7 +13,8 @@ use lib.Dec.{eqb}
 use lib.ListN.{length, getD, take, drop, take-append-drop}
 use lib.Seq.{slice, slice-cons, slice-empty, length-slice, take-append-seam, take-nil}
 use Rattle.atlite.specs.Base.{Base, bytes, sameBytes, all, if_then_else_}
-use Rattle.atlite.specs.Lexicon.{Bytes, isLetter, inWord, letterFirst, among, reserved, isWord}
+use Rattle.atlite.specs.Lexicon.{Bytes, isLetter, inWord, letterFirst, among, isWord}
+use Rattle.atlite.specs.Keywords.{reserved}
 use Rattle.atlite.specs.Reader.{item, after}
 use Rattle.atlite.specs.Facts.{same-true, same-refl, none-some}
 use Rattle.reading.specs.Items.{after-whole}

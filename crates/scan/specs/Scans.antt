@@ -11,7 +11,8 @@ use lib.Dec.{ltb, leb}
 use lib.ListN.{length, getD, drop, set, length-set, length-append, List·getD-append, drop-of-length-le}
 use lib.Seq.{slice, getD-set-same, getD-set-other, getD-append-seam, drop-drop, length-slice}
 use Rattle.atlite.specs.Base.{bytes, sameBytes, all, if_then_else_}
-use Rattle.atlite.specs.Lexicon.{Bytes, inWord, isWord, among, noted, wordsFrom, wordsOf, withoutApply, dictionary, letterFirst, isLetter, isDigit, reserved}
+use Rattle.atlite.specs.Lexicon.{Bytes, inWord, isWord, among, noted, wordsFrom, wordsOf, withoutApply, dictionary, letterFirst, isLetter, isDigit}
+use Rattle.atlite.specs.Keywords.{reserved}
 use Rattle.atlite.specs.Reader.{item}
 use Rattle.atlite.specs.Facts.{and₂, both₂, or-false, same-true, same-refl, same-false-sym, tests-append}
 use Rattle.reading.specs.Items.{Ends}

@@ -6,7 +6,8 @@ ghost use lib.Dec.{eqb};
 ghost use lib.ListN.{length};
 ghost use lib.Seq.{slice};
 ghost use Rattle.atlite.specs.Base.{bytes, sameBytes};
-ghost use Rattle.atlite.specs.Lexicon.{isLetter, isDigit, inWord, isWord, reserved};
+ghost use Rattle.atlite.specs.Lexicon.{isLetter, isDigit, inWord, isWord};
+ghost use Rattle.atlite.specs.Keywords.{reserved};
 ghost use Rattle.scan.specs.Runs.{Run, Starts, index};
 ghost use Rattle.scan.specs.Codes.{Numbered, lowPart, highPart, Placed, Noted, Dictionary};
 

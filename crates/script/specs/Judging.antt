@@ -11,6 +11,7 @@ use Rattle.atlite.specs.Base.{done, _>>=_, if_then_else_}
 use Rattle.atlite.specs.Lexicon.{dictionary}
 use Rattle.atlite.specs.Script.{Src, Line, expression, define, size, join}
 use Rattle.atlite.specs.Scope.{bound, single}
+use Rattle.atlite.specs.Keywords.{operators}
 use Rattle.atlite.specs.Reader.{depth, readScript}
 use Rattle.atlite.specs.Table.{GrammaticalLines}
 use Rattle.atlite.specs.declared.Tabled.the-variants.{Done, Refused}
@@ -37,7 +38,7 @@ pub record Grammar (t old s low high : List ℕ) (words lines count : ℕ) (appl
   pub dict : Dictionary t low high count apply
   pub ls : List Line
   pub e : Src
-  pub script : readScript t ≡ done ls
+  pub script : readScript operators t ≡ done ls
   pub joined : join ls ≡ done e
   pub stands : Stands s words lines ls
   pub few : words ≤ 4096

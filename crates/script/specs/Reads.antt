@@ -12,6 +12,7 @@ use Rattle.atlite.specs.Base.{Result, done, refused, _>>=_, _>>_, require}
 use Rattle.atlite.specs.Lexicon.{Bytes, wordsOf, dictionary}
 use Rattle.atlite.specs.Script.{Src, Line, size, join}
 use Rattle.atlite.specs.Scope.{bound, single}
+use Rattle.atlite.specs.Keywords.{operators}
 use Rattle.atlite.specs.Reader.{depth, readScript}
 use Rattle.atlite.specs.Table.{Table, read}
 use Rattle.atlite.specs.Facts.{refused-done}
@@ -69,12 +70,12 @@ module _ (t old : List ℕ) (room : 1280 ≤ length old) where
 
   module _ (some : length t ≡ 0 → ⊥) (short : length t ≤ 4096) where
     -- the text's length is no cause
-    sized : read t ≡ (readScript t >>= λ ls. (join ls >>= λ e. judged t ls e))
+    sized : read t ≡ (readScript operators t >>= λ ls. (join ls >>= λ e. judged t ls e))
     unfolding read require judged within
     sized = rw (lt-ltb 0 (length t) (positive some), le-leb (length t) 4096 short)
 
-    pub no-script : (readScript t >>= join) ≡ refused 2 → Reads t old (Refused 2) old
-    no-script e = refusal t old 2 room (sized ∙ go (readScript t) e)
+    pub no-script : (readScript operators t >>= join) ≡ refused 2 → Reads t old (Refused 2) old
+    no-script e = refusal t old 2 room (sized ∙ go (readScript operators t) e)
       where
         lines : (ls : List Line) (r : Result Src) → r ≡ refused 2 → (r >>= λ e. judged t ls e) ≡ refused 2
         lines ls (done e) q = absurd (refused-done (sym q))
@@ -84,7 +85,7 @@ module _ (t old : List ℕ) (room : 1280 ≤ length old) where
         go (refused n) q = cc
         go (done ls) q = lines ls (join ls) q
 
-    module _ (ls : List Line) (e : Src) (script : readScript t ≡ done ls) (joined : join ls ≡ done e) where
+    module _ (ls : List Line) (e : Src) (script : readScript operators t ≡ done ls) (joined : join ls ≡ done e) where
       whole : read t ≡ judged t ls e
       whole = sized ∙ rw (script, joined)
 

@@ -8,7 +8,8 @@ use borrow.Author.Tests.{eqb-true}
 use lib.ListN.{length}
 use Rattle.atlite.specs.Base.{bytes}
 use Rattle.atlite.specs.Lexicon.{Bytes}
-use Rattle.atlite.specs.Printer.{printName, opWord, opNames, srcWord, srcNames}
+use Rattle.atlite.specs.Printer.{printName, opNames, srcNames}
+use Rattle.atlite.specs.Keywords.{opWord, srcWord}
 use Rattle.atlite.specs.Table.{writable}
 use Rattle.atlite.specs.Valid.{operable}
 use Rattle.atlite.specs.Script.{SrcOp, kept, ask, resolve, seq}

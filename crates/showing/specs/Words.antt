@@ -8,7 +8,8 @@ use borrow.Author.Tests.{lt-ltb, le-ltb, ne-eqb}
 use lib.ListN.{length}
 use Rattle.atlite.specs.Base.{bytes}
 use Rattle.atlite.specs.Lexicon.{Bytes}
-use Rattle.atlite.specs.Printer.{form, printItems, printWord, printNumber, printKind, printName}
+use Rattle.atlite.specs.Printer.{form, printItems, printWord, printNumber, printName}
+use Rattle.atlite.specs.Keywords.{printKind}
 use Rattle.atlite.specs.Listing.{printSeries, printValue}
 use Rattle.atlite.specs.Term.{made, copied, Value, null, num, ref, Name, plain, twoWay, resolve, register, Kind}
 use Rattle.reading.specs.Items.{behind, form-closing}

@@ -1,6 +1,6 @@
 -- Where a comparison holds the run is that reserved word; where all fail it is none. Assumes nothing.
 use Rattle.atlite.specs.Base.{Base}
-use Rattle.atlite.specs.Lexicon.{reserved}
+use Rattle.atlite.specs.Keywords.{reserved}
 use Rattle.scan.specs.Runs.{index}
 use Rattle.scan.specs.Keywords.{laws, no-other}
 use Rattle.scan.proofs.other.Statement.{statement}
