@@ -11,7 +11,8 @@ use Rattle.atlite.specs.Valid.{IsState}
 use Rattle.layout.specs.Pack.{node, zeros, pad, flat}
 use Rattle.layout.specs.PackLaws.{Each, each-map, NameFits, names-small, places-small}
 use Rattle.layout.specs.Terms.{countInits, countMethods, encodeValue, asked, opKind, opPayload, kindNumber, fieldHeader, methodHeader, encodeTerm, encodeTerms, encodeInits, encodeMethods}
-use Rattle.layout.specs.TermLaws.{op-kind-small, kind-small, ValueFits, NameOk, OpFits, Fits, FitsAll, FitsInits, FitsMethods}
+use Rattle.layout.specs.Kinds.{op-kind, kind-small}
+use Rattle.layout.specs.TermLaws.{ValueFits, NameOk, OpFits, Fits, FitsAll, FitsInits, FitsMethods}
 use Rattle.layout.specs.TermReads.{bit, asked-small, label-small}
 use Rattle.layout.specs.Layout.{valueWords, encodeMessage, slotHead, tagNumber, slot, slots, methodsOf, bodies, queues, encodeActor, bytesNumber, threeWords, encodeWord, encode}
 use Rattle.layout.specs.Slots.{MessageFits, EntityFits, EntitiesFit, count-names, tag-low, fits-of, queues-fit}
@@ -64,7 +65,7 @@ pub asked-word : (k : ℕ) (m : Name) (n : ℕ) → k < 256 → NameOk m → n <
 asked-word k m n h l g = node-small k (asked m n) h (omega (arith, asked-small m n l g))
 
 pub op-word : (o : Op Name) (n : ℕ) → OpFits o n → node (opKind o) (opPayload o n) < 4294967296
-op-word o n h = node-small (opKind o) (opPayload o n) (omega (arith, op-kind-small o)) (label-small (shape o) n h)
+op-word o n h = node-small (opKind o) (opPayload o n) (omega (arith, op-kind o .1)) (label-small (shape o) n h)
 
 mutual
   unfolding encodeTerm Fits

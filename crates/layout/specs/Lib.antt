@@ -3,6 +3,7 @@ pub mod Pack
 pub mod Terms
 pub mod Layout
 pub mod Tables
+pub mod Kinds
 pub mod Meaning
 -- reading words, which need not be believed
 pub mod Reading
@@ -43,5 +44,6 @@ pub mod ParseSound
 pub mod ParseLaws
 pub mod ParseMessages
 pub mod Arity
+pub mod KindLaws
 -- computed examples
 pub mod Shown

@@ -13,6 +13,7 @@ use Rattle.atlite.specs.State.{State}
 use Rattle.atlite.specs.Move.{Answer, move}
 use Rattle.atlite.specs.Run.{run, Counts}
 use Rattle.atlite.specs.Listing.{listing}
+use Rattle.atlite.specs.Keywords.{operators}
 use Rattle.atlite.specs.Table.{textOf, Table, read}
 use Rattle.atlite.specs.Load.{load}
 use Rattle.layout.specs.Layout.{stateWords, encode}
@@ -49,7 +50,7 @@ lent w = room stateWords w >> stateIn w
 unfoldable pub readCall : List ℕ → List ℕ → Reply (Unit {0})
 readCall text table = answered table (do
   room tableWords table
-  T ← read text
+  T ← read operators text
   done (tt, encodeTable T))
 
 unfoldable pub printCall : List ℕ → List ℕ → Reply ℕ

@@ -14,6 +14,7 @@ use Rattle.atlite.specs.State.{State}
 use Rattle.atlite.specs.Move.{Answer, Moved, move}
 use Rattle.atlite.specs.Run.{run, Counts}
 use Rattle.atlite.specs.Listing.{listing}
+use Rattle.atlite.specs.Keywords.{operators}
 use Rattle.atlite.specs.Table.{textOf, IsTable, Table, read}
 use Rattle.atlite.specs.Load.{load}
 use Rattle.atlite.specs.Valid.{IsState}
@@ -203,7 +204,7 @@ pub read-outcome : (text table : List ℕ) → Outcome table (Read text table) (
 unfolding readCall
 read-outcome text table = outcome table (Read text table) _ λ u w e.
     let a = then-done (room tableWords table) _ (u, w) e in
-    let b = bind-done (read text) _ (u, w) (a .1) in
+    let b = bind-done (read operators text) _ (u, w) (a .1) in
     let d = done-same (tt, encodeTable (b .0)) (u, w) (b .2) in
     let q = read-exact text (b .0) .0 (b .1) in
     (b .0, q .0, q .1, sym (ap (λ p. p .1) d), room-done tableWords table (a .0))

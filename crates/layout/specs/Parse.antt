@@ -9,8 +9,9 @@ use mathlib.Core.List.{List, [], _∷_}
 use mathlib.Core.Option.{Option, some}
 use lib.ListN.{length, getD}
 use lib.Dec.{eqb, ltb, leb}
-use Rattle.atlite.specs.Term.{Value, null, num, Name, plain, twoWay, resolve, register, Op, plus, percent, get, set, call, send, Kind, Term, val, var, op, letIn, future, literal, Terms, nil, cons, Inits, noField, Methods, noMethod, method}
+use Rattle.atlite.specs.Term.{Value, null, num, Name, plain, twoWay, resolve, register, Op, call, send, written, Kind, Term, val, var, op, letIn, future, literal, Terms, nil, cons, Inits, noField, Methods, noMethod, method}
 use Rattle.atlite.specs.State.{Message, message}
+use Rattle.layout.specs.Kinds.{Form, nothing, nullValue, number, reference, variable, bare, onField, calls, sends, formIn}
 use Rattle.layout.specs.TermReading.{refIn}
 
 -- what stands at a position, and the position of its end
@@ -84,30 +85,22 @@ askIn f p = only (ltb (p / 128 / 4) 8) (askHead f (p / 128 / 4) (nameOf (p / 128
 abbrev pub literalHead : Kind → ℕ → Head
 literalHead k p = only (ltb (p / 8) 8) (parts k (p % 8) (p / 8))
 
-unfoldable pub heads : ℕ → List Head
-heads p =
-    noHead
-    ∷ valueHead (valueIn 1 p)
-    ∷ valueHead (valueIn 2 p)
-    ∷ valueHead (valueIn 3 p)
-    ∷ noHead
-    ∷ noHead
-    ∷ only (ltb p 127) (leaf (var p))
-    ∷ only (eqb p 0) (many plus 2)
-    ∷ only (eqb p 0) (many percent 2)
-    ∷ only (ltb p 127) (many (get p) 1)
-    ∷ only (ltb p 127) (many (set p) 2)
-    ∷ only (ltb p 127) (binary (λ e d. letIn p e d))
-    ∷ only (ltb (p % 128) 127) (only (ltb (p / 128) 127) (unary (λ e. future (p % 128) (p / 128) e)))
-    ∷ askIn call p
-    ∷ askIn send p
-    ∷ literalHead Kind.object p
-    ∷ literalHead Kind.isolate p
-    ∷ literalHead Kind.actor p
-    ∷ []
+unfoldable pub headOf : Form → ℕ → Head
+headOf nothing p = noHead
+headOf nullValue p = valueHead (valueIn 1 p)
+headOf number p = valueHead (valueIn 2 p)
+headOf reference p = valueHead (valueIn 3 p)
+headOf variable p = only (ltb p 127) (leaf (var p))
+headOf (bare o n e) p = only (eqb p 0) (many (written o) n)
+headOf (onField c k n e) p = only (ltb p 127) (many (written (c p)) n)
+headOf Form.letIn p = only (ltb p 127) (binary (λ e d. letIn p e d))
+headOf Form.future p = only (ltb (p % 128) 127) (only (ltb (p / 128) 127) (unary (λ e. future (p % 128) (p / 128) e)))
+headOf calls p = askIn call p
+headOf sends p = askIn send p
+headOf (Form.literal k) p = literalHead k p
 
 unfoldable pub headIn : ℕ → ℕ → Head
-headIn k p = getD (heads p) k noHead
+headIn k p = headOf (formIn k) p
 
 unfoldable pub headAt : ℕ → Head
 headAt x = headIn (x / 16777216) (x % 16777216)
@@ -202,5 +195,5 @@ parseMessage w at =
     behind (valuesAt w n (at + 2)) (λ vs. got (message v m vs) (at + 6))))))))
 
 unfoldable pub Parse : Unit {0}
-unfolding valueIn valueAt nameOf heads headIn headAt fieldAt placesIn paramsAt methodAt termsBy initsBy methodsBy formed parseTerm valuesAt zerosAt parseMessage
+unfolding valueIn valueAt nameOf headOf headIn headAt fieldAt placesIn paramsAt methodAt termsBy initsBy methodsBy formed parseTerm valuesAt zerosAt parseMessage
 Parse = tt

@@ -1,8 +1,8 @@
 -- The head that a word is, exactly. `Reads` says of a head what a term made with it must be: fitting, where its parts are, and laid
 -- out as this word and then the parts; every word's head is such a head, and every term's first word has the head of that term.
--- By the table of kinds, one row each. Assumes nothing.
+-- By the table of kinds, one clause a form. Assumes nothing.
 use Prim.Native.Nat.{ℕ, zero, suc, _+_, _*_, _≤_, _<_, _/_, _%_}
-use mathlib.Core.Path.{_≡_, refl, sym, ap, _∙_}
+use mathlib.Core.Path.{_≡_, refl, sym, ap, ap₂, _∙_, subst as transp}
 use mathlib.Core.Bool.{Bool, true, false}
 use mathlib.Core.List.{List, [], _∷_, _++_}
 use mathlib.Core.Option.{Option, none, some}
@@ -10,15 +10,15 @@ use native.Mathlib.Nat.{mod-add-div}
 use native.Mathlib.Omega.{arith}
 use borrow.Author.Tests.{ltb-true, eqb-true, lt-ltb}
 use lib.Dec.{eqb, ltb}
-use lib.ListN.{List·getD-eq-default}
-use Rattle.atlite.specs.Term.{Value, null, num, ref, Name, Op, plus, percent, get, set, call, send, Kind, Term, val, var, op, letIn, future, literal, Terms, Inits, Methods, countTerms}
+use Rattle.atlite.specs.Term.{Value, null, num, ref, Name, Op, call, send, written, shape, sending, Kind, Term, val, var, op, letIn, future, literal, Terms, Inits, Methods, countTerms}
 use Rattle.layout.specs.Pack.{node}
-use Rattle.layout.specs.Terms.{countInits, countMethods, seriesBit, encodeValue, tagged, asked, opKind, opPayload, kindNumber, encodeTerm, encodeTerms, encodeInits, encodeMethods}
+use Rattle.layout.specs.Terms.{countInits, countMethods, seriesBit, encodeValue, tagged, asked, arguments, opKind, opPayload, kindNumber, encodeTerm, encodeTerms, encodeInits, encodeMethods}
+use Rattle.layout.specs.Kinds.{Kinds, Bare, Fields, Form, nothing, nullValue, number, reference, variable, bare, onField, calls, sends, formKind, formIn, by-kind, form-none, Row, isBare, isField, isCall, isSend, row}
 use Rattle.layout.specs.PackLaws.{pack-low, pack-high, NameFits}
-use Rattle.layout.specs.TermLaws.{ValueFits, NameOk, OpFits, Fits, FitsAll, FitsInits, FitsMethods}
-use Rattle.layout.specs.TermReads.{bit, ref-back, asked-small, asked-count}
-use Rattle.layout.specs.Parse.{valueIn, nameOf, Head, noHead, leaf, unary, binary, many, parts, only, valueHead, askHead, askIn, literalHead, heads, headIn, headAt}
-use Rattle.layout.specs.ParseWords.{Along, along-getD, Holding, word-node, payload-small, of-node, ValueWord, value-in, NameWord, name-word, name-read}
+use Rattle.layout.specs.TermLaws.{bare-payload, bare-count, field-payload, field-count, ValueFits, NameOk, ShapeFits, OpFits, Fits, FitsAll, FitsInits, FitsMethods}
+use Rattle.layout.specs.TermReads.{bit, ref-back, label-small, asked-count}
+use Rattle.layout.specs.Parse.{valueIn, nameOf, Head, noHead, leaf, unary, binary, many, parts, only, valueHead, askHead, askIn, literalHead, headOf, headIn, headAt}
+use Rattle.layout.specs.ParseWords.{Holding, word-node, payload-small, of-node, ValueWord, value-in, NameWord, name-word, name-read}
 
 -- ---- every word's head makes terms that begin with the word
 -- a term that fits, with these words
@@ -73,49 +73,54 @@ reads-literal k p = reads-lt _ (p / 8) 8 (parts k (p % 8) (p / 8)) (λ l fs ms i
     let q : countInits fs + 8 * countMethods ms ≡ p = omega arith in
     ((omega arith, omega arith, i, j), ap (λ n. node (kindNumber k) n ∷ (encodeInits fs ++ encodeMethods ms)) q))
 
--- ---- the table
-pub row : {A B : Type 0} → A → B → A × B
-row h r = (h, r)
+-- ---- by the table of kinds
+module _ (p : ℕ) (h : p < 16777216) where
+  bare-reads : (o : Op ℕ) (n : ℕ) → Bare o n → Reads (node (opKind (written o)) p) (only (eqb p 0) (many (written o) n))
+  unfolding Fits encodeTerm
+  bare-reads o n e = reads-eq _ p 0 (many (written o) n) (λ z es i c.
+      ((transp (λ s. ShapeFits s (countTerms es)) (sym (e .1)) c, i), ap (λ q. node (opKind (written o)) q ∷ encodeTerms es) (bare-payload o n (countTerms es) e ∙ sym z)))
 
-rows : (p : ℕ) → p < 16777216 → Along (λ k. Reads (node k p)) (heads p)
-unfolding heads Fits encodeTerm kindNumber
-rows p h =
-    row tt
-    (row (reads-value (node 1 p) (valueIn 1 p) (value-in 1 p h))
-    (row (reads-value (node 2 p) (valueIn 2 p) (value-in 2 p h))
-    (row (reads-value (node 3 p) (valueIn 3 p) (value-in 3 p h))
-    (row tt
-    (row tt
-    (row (reads-lt (node 6 p) p 127 (leaf (var p)) (λ l. (l, refl)))
-    (row (reads-eq (node 7 p) p 0 (many plus 2) (λ z es i c. ((c, i), ap (λ n. node 7 n ∷ encodeTerms es) (sym z))))
-    (row (reads-eq (node 8 p) p 0 (many percent 2) (λ z es i c. ((c, i), ap (λ n. node 8 n ∷ encodeTerms es) (sym z))))
-    (row (reads-lt (node 9 p) p 127 (many (get p) 1) (λ l es i c. (((l, c), i), refl)))
-    (row (reads-lt (node 10 p) p 127 (many (set p) 2) (λ l es i c. (((l, c), i), refl)))
-    (row (reads-lt (node 11 p) p 127 (binary (λ e d. letIn p e d)) (λ l e d i j. ((l, i, j), refl)))
-    (row (reads-lt (node 12 p) (p % 128) 127 _ (λ l. reads-lt (node 12 p) (p / 128) 127 (unary (λ e. future (p % 128) (p / 128) e)) (λ b e i. ((l, b, i), ap (λ n. node 12 n ∷ encodeTerm e) (mod-add-div p 128)))))
-    (row (reads-ask 13 call (λ m n es a b i c. (rw c ((a, b), i), rw c refl)) p)
-    (row (reads-ask 14 send (λ m n es a b i c. (rw c ((a, b), i), rw c refl)) p)
-    (row (reads-literal Kind.object p)
-    (row (reads-literal Kind.isolate p)
-    (row (reads-literal Kind.actor p) tt)))))))))))))))))
+  field-reads : (c : ℕ → Op ℕ) (k n : ℕ) → Fields c k n → Reads (node k p) (only (ltb p 127) (many (written (c p)) n))
+  unfolding Fits encodeTerm
+  field-reads c k n e = reads-lt _ p 127 (many (written (c p)) n) (λ l es i d. (
+    (transp (λ s. ShapeFits s (countTerms es)) (sym (e .0 p .1)) (l, d), i),
+    ap₂ (λ j q. node j q ∷ encodeTerms es) (e .0 p .2) (field-payload c k n e p (countTerms es)),
+  ))
+
+  form-reads : (r : Form) → Reads (node (formKind r) p) (headOf r p)
+  unfolding formKind headOf Fits encodeTerm
+  form-reads nothing = tt
+  form-reads nullValue = reads-value (node 1 p) (valueIn 1 p) (value-in 1 p h)
+  form-reads number = reads-value (node 2 p) (valueIn 2 p) (value-in 2 p h)
+  form-reads reference = reads-value (node 3 p) (valueIn 3 p) (value-in 3 p h)
+  form-reads variable = reads-lt (node 6 p) p 127 (leaf (var p)) (λ l. (l, refl))
+  form-reads (bare o n e) = bare-reads o n e
+  form-reads (onField c k n e) = field-reads c k n e
+  form-reads Form.letIn = reads-lt (node 11 p) p 127 (binary (λ e d. letIn p e d)) (λ l e d i j. ((l, i, j), refl))
+  form-reads Form.future =
+      reads-lt (node 12 p) (p % 128) 127 _ (λ l. reads-lt (node 12 p) (p / 128) 127 (unary (λ e. future (p % 128) (p / 128) e)) (λ b e i. ((l, b, i), ap (λ n. node 12 n ∷ encodeTerm e) (mod-add-div p 128))))
+  form-reads calls = reads-ask 13 call (λ m n es a b i c. (rw c ((a, b), i), rw c refl)) p
+  form-reads sends = reads-ask 14 send (λ m n es a b i c. (rw c ((a, b), i), rw c refl)) p
+  form-reads (Form.literal k) = reads-literal k p
 
 pub head-reads : (x : ℕ) → Reads x (headAt x)
-unfolding headAt headIn
+unfolding headAt headIn headOf
 head-reads x =
-    rw (word-node x) at (along-getD (λ k. Reads (node k (x % 16777216))) noHead (λ k. tt) (heads (x % 16777216)) (rows (x % 16777216) (payload-small x)) (x / 16777216))
+    let p = x % 16777216 in
+    rw (word-node x) at (by-kind (λ k r. Reads (node k p) (headOf r p)) (λ k. tt) (form-reads p (payload-small x)) (x / 16777216))
 
 -- a kind that was found, and the kinds past the table
 pub head-kind : (x k : ℕ) → x / 16777216 ≡ k → headAt x ≡ headIn k (x % 16777216)
 unfolding headAt
 head-kind x k e = ap (λ i. headIn i (x % 16777216)) e
 
-pub head-none : (x : ℕ) → 18 ≤ x / 16777216 → headAt x ≡ noHead
-unfolding headAt headIn heads
-head-none x h = List·getD-eq-default (heads (x % 16777216)) noHead h
+pub head-none : (x : ℕ) → 32 ≤ x / 16777216 → headAt x ≡ noHead
+unfolding headAt headIn headOf
+head-none x h = ap (λ r. headOf r (x % 16777216)) (form-none (x / 16777216) h)
 
 -- ---- and every term's first word has its head
 pub head-value : (v : Value) → ValueFits v → headAt (encodeValue v) ≡ leaf (val v)
-unfolding headAt headIn heads valueIn encodeValue
+unfolding headAt Kinds headIn headOf valueIn encodeValue
 head-value null h = refl
 head-value (num n) h = of-node headIn 2 n h
 head-value (ref a s n) h =
@@ -129,15 +134,15 @@ module _ (x : ℕ) (h : NameFits x) where
   small = omega (arith, h)
 
   pub head-var : headAt (node 6 x) ≡ leaf (var x)
-  unfolding headAt headIn heads
+  unfolding headAt Kinds headIn headOf
   head-var = of-node headIn 6 x small ∙ rw (lt-ltb x 127 h)
 
   pub head-let : headAt (node 11 x) ≡ binary (λ e d. letIn x e d)
-  unfolding headAt headIn heads
+  unfolding headAt Kinds headIn headOf
   head-let = of-node headIn 11 x small ∙ rw (lt-ltb x 127 h)
 
   pub head-future : (y : ℕ) → NameFits y → headAt (node 12 (x + 128 * y)) ≡ unary (λ e. future x y e)
-  unfolding headAt headIn heads
+  unfolding headAt Kinds headIn headOf
   head-future y g =
       let l : x < 128 = omega (arith, h) in
       of-node headIn 12 (x + 128 * y) (omega (arith, h, g)) ∙ rw (pack-low 128 x y l, pack-high 128 x y l, lt-ltb x 127 h, lt-ltb y 127 g)
@@ -145,19 +150,23 @@ module _ (x : ℕ) (h : NameFits x) where
 ask-in : (f : Name → Op Name) (m : Name) (n : ℕ) → NameOk m → n < 8 → askIn f (asked m n) ≡ many (f m) (suc n)
 ask-in f m n h l = rw (asked-count m n h, name-read m n h, lt-ltb n 8 l)
 
+ask-head : (f : Name → Op Name) (m : Name) (n : ℕ) → ShapeFits (sending m) n → askIn f (asked m (arguments n)) ≡ many (f m) n
+ask-head f m zero h = absurd h
+ask-head f m (suc n) h = ask-in f m n (h .0) (h .1)
+
+row-head : (o : Op Name) → Row o → (n : ℕ) → OpFits o n → headIn (opKind o) (opPayload o n) ≡ many o n
+unfolding Kinds headIn headOf
+row-head _ (isBare o m e f w) n h = rw (f, bare-payload o m n e, bare-count o m n e h)
+row-head _ (isField c k m e x f w) n h = let (l, i) = field-count c k m e x n h in rw (e .0 x .2, f, field-payload c k m e x n, lt-ltb x 127 l, i)
+row-head _ (isCall m) n h = ask-head call m n h
+row-head _ (isSend m) n h = ask-head send m n h
+
 pub head-op : (o : Op Name) (n : ℕ) → OpFits o n → headAt (node (opKind o) (opPayload o n)) ≡ many o n
-unfolding headAt headIn heads
-head-op plus n h = rw h refl
-head-op percent n h = rw h refl
-head-op (get f) n h = of-node headIn 9 f (small f (h .0)) ∙ rw (lt-ltb f 127 (h .0), h .1)
-head-op (set f) n h = of-node headIn 10 f (small f (h .0)) ∙ rw (lt-ltb f 127 (h .0), h .1)
-head-op (call m) zero h = absurd h
-head-op (call m) (suc n) h = of-node headIn 13 (asked m n) (omega (arith, asked-small m n (h .0) (h .1))) ∙ ask-in call m n (h .0) (h .1)
-head-op (send m) zero h = absurd h
-head-op (send m) (suc n) h = of-node headIn 14 (asked m n) (omega (arith, asked-small m n (h .0) (h .1))) ∙ ask-in send m n (h .0) (h .1)
+unfolding headAt
+head-op o n h = of-node headIn (opKind o) (opPayload o n) (label-small (shape o) n h) ∙ row-head o (row o) n h
 
 pub head-literal : (k : Kind) (n m : ℕ) → n < 8 → m < 8 → headAt (node (kindNumber k) (n + 8 * m)) ≡ parts k n m
-unfolding headAt headIn heads kindNumber
+unfolding headAt Kinds headIn headOf
 head-literal k n m i j = of-node headIn (kindNumber k) (n + 8 * m) (omega arith) ∙ go k
   where
     literal-in : (k : Kind) → literalHead k (n + 8 * m) ≡ parts k n m

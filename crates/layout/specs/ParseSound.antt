@@ -13,7 +13,8 @@ use Rattle.atlite.specs.Term.{Term, op, literal, Terms, cons, Inits, Methods, m
 use Rattle.layout.specs.PackLaws.{NameFits}
 use Rattle.layout.specs.Terms.{countInits, countMethods, fieldHeader, methodHeader, encodeTerm, encodeTerms, encodeInits, encodeMethods}
 use Rattle.layout.specs.TermLaws.{Fits, FitsAll, FitsInits, FitsMethods}
-use Rattle.layout.specs.Parse.{Got, none, got, onGot, pair, behind, Head, noHead, leaf, unary, binary, many, parts, heads, headIn, headAt, fieldAt, methodAt, termsBy, initsBy, methodsBy, formed, parseTerm, parseTerms, parseInits, parseMethods}
+use Rattle.layout.specs.Kinds.{Kinds}
+use Rattle.layout.specs.Parse.{Got, none, got, onGot, pair, behind, Head, noHead, leaf, unary, binary, many, parts, headOf, headIn, headAt, fieldAt, methodAt, termsBy, initsBy, methodsBy, formed, parseTerm, parseTerms, parseInits, parseMethods}
 use Rattle.layout.specs.ParseWords.{Holding, field-word, MethodIs, method-word}
 use Rattle.layout.specs.ParseHeads.{Is, Reads, head-reads}
 use Rattle.layout.specs.Spans.{Spans, span-none, span-word, span-join}
@@ -118,7 +119,7 @@ module _ (w : List ℕ) (p : ℕ → Got Term) (sound : (at : ℕ) → Ended (Te
 
 -- ---- the law
 term-ended : (n : ℕ) (w : List ℕ) (at : ℕ) → Ended (TermAt w at) (parseTerm n w at)
-unfolding parseTerm formed headAt headIn heads
+unfolding parseTerm formed headAt Kinds headIn headOf
 term-ended zero w at = tt
 term-ended (suc n) w at =
     ended-word (TermAt w at) w at (λ x. formed (headAt x) (λ i. parseTerm n w i) w (at + 1)) refl

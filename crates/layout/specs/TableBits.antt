@@ -11,7 +11,7 @@ use Rattle.layout.specs.Terms.{kindNumber}
 use Rattle.layout.specs.Layout.{encodeWord}
 use Rattle.layout.specs.Tables.{srcKind, srcPayload, encodeSrc, encodeSrcs, encodeFields, encodeSrcMethods, encodeLine, encodeTable}
 use Rattle.layout.specs.PackLaws.{each-map, NameFits}
-use Rattle.layout.specs.TermLaws.{kind-small}
+use Rattle.layout.specs.Kinds.{kind-small}
 use Rattle.layout.specs.Fitting.{each-all, name-fits}
 use Rattle.layout.specs.Whole.{WordFits}
 use Rattle.layout.specs.Bits.{Small, both, pad-small, flat-small, node-small, name-small, method-small, header-small, word-small}

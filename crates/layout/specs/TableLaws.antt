@@ -9,6 +9,7 @@ use mathlib.Core.Logic.{_↔_}
 use native.Mathlib.Omega.{arith}
 use lib.ListN.{length, drop, getD, length-append}
 use Rattle.atlite.specs.Base.{Result, done, refused, sameBytes, if_then_else_}
+use Rattle.atlite.specs.Keywords.{operators}
 use Rattle.atlite.specs.Table.{textOf, IsTable, Table, read}
 use Rattle.atlite.specs.Lexicon.{Bytes}
 use Rattle.atlite.specs.Facts.{none-some, same-true, same-refl}
@@ -86,18 +87,18 @@ table-of T h = rw (decode-encode-table T h, read-exact (textOf T) T .1 (h, refl)
 
 pub of-table : (w : List ℕ) (T : Table) → tableOf w ≡ some T → IsTable T × (encodeTable T ≡ w)
 unfolding tableOf sameTable if_then_else_
-of-table w T e = go (read t) refl e
+of-table w T e = go (read operators t) refl e
   where
     t : Bytes
     t = textOf (decodeTable w)
 
-    same : (U : Table) (b : Bool) → read t ≡ done U → sameBytes (encodeTable U) w ≡ b → (if b then some U else none) ≡ some T → IsTable T × (encodeTable T ≡ w)
+    same : (U : Table) (b : Bool) → read operators t ≡ done U → sameBytes (encodeTable U) w ≡ b → (if b then some U else none) ≡ some T → IsTable T × (encodeTable T ≡ w)
     same U true p q e =
         let d : U ≡ T = cc in
         transp (λ S. IsTable S × (encodeTable S ≡ w)) d (read-exact t U .0 p .0, same-true (encodeTable U) w q)
     same U false p q e = absurd (none-some e)
 
-    go : (r : Result Table) → read t ≡ r → sameTable w r ≡ some T → IsTable T × (encodeTable T ≡ w)
+    go : (r : Result Table) → read operators t ≡ r → sameTable w r ≡ some T → IsTable T × (encodeTable T ≡ w)
     go (done U) p e = same U (sameBytes (encodeTable U) w) p refl e
     go (refused n) p e = absurd (none-some e)
 

@@ -8,9 +8,11 @@ use mathlib.Core.Option.{Option, none, some}
 use lib.ListN.{drop, getD}
 use lib.Dec.{ltb}
 use Rattle.atlite.specs.Base.{Result, done, refused, sameBytes, if_then_else_}
-use Rattle.atlite.specs.Term.{plus, percent, get, set, call, send, Kind}
+use Rattle.atlite.specs.Term.{call, send, Kind}
+use Rattle.atlite.specs.Keywords.{operators}
 use Rattle.atlite.specs.Table.{textOf, Table, read}
 use Rattle.atlite.specs.Script.{SrcOp, kept, ask, resolve, seq, Src, num, null, var, op, letIn, future, fn, when, literal, nil, cons, noField, field, noMethod, method, Line, expression, define}
+use Rattle.layout.specs.Kinds.{Form, nothing, nullValue, number, reference, variable, bare, onField, calls, sends, formIn}
 use Rattle.layout.specs.Reading.{cut, Item, alone, aField, aDefinition, aMethod, exprOf, fieldOf, methodOf, gather, first, stack}
 use Rattle.layout.specs.Decode.{decodeWord}
 use Rattle.layout.specs.Tables.{encodeTable}
@@ -29,28 +31,20 @@ literalIn k p s =
 abbrev pub twoIn : (Src → Src → Src) → List (Item Src) → List (Item Src)
 twoIn f s = alone (f (first null s) (first null (drop 1 s))) ∷ drop 2 s
 
--- what the stack becomes, by the node's kind
-unfoldable pub plainForms : ℕ → List (Item Src) → List (List (Item Src))
-plainForms p s =
-    s
-    ∷ (alone null ∷ s)
-    ∷ (alone (num p) ∷ s)
-    ∷ s
-    ∷ s
-    ∷ s
-    ∷ (alone (var p) ∷ s)
-    ∷ opIn (kept plus) 2 s
-    ∷ opIn (kept percent) 2 s
-    ∷ opIn (kept (get p)) 1 s
-    ∷ opIn (kept (set p)) 2 s
-    ∷ twoIn (letIn p) s
-    ∷ (alone (future (p % 128) (p / 128) (first null s)) ∷ drop 1 s)
-    ∷ askedIn (λ m. kept (call m)) p s
-    ∷ askedIn (λ m. kept (send m)) p s
-    ∷ literalIn Kind.object p s
-    ∷ literalIn Kind.isolate p s
-    ∷ literalIn Kind.actor p s
-    ∷ []
+-- what the stack becomes, by the node's form
+unfoldable pub onSrcs : Form → ℕ → List (Item Src) → List (Item Src)
+onSrcs nothing p s = s
+onSrcs nullValue p s = alone null ∷ s
+onSrcs number p s = alone (num p) ∷ s
+onSrcs reference p s = s
+onSrcs variable p s = alone (var p) ∷ s
+onSrcs (bare o n e) p s = opIn (kept o) n s
+onSrcs (onField c k n e) p s = opIn (kept (c p)) n s
+onSrcs Form.letIn p s = twoIn (letIn p) s
+onSrcs Form.future p s = alone (future (p % 128) (p / 128) (first null s)) ∷ drop 1 s
+onSrcs calls p s = askedIn (λ m. kept (call m)) p s
+onSrcs sends p s = askedIn (λ m. kept (send m)) p s
+onSrcs (Form.literal k) p s = literalIn k p s
 
 unfoldable pub scriptForms : ℕ → List (Item Src) → List (List (Item Src))
 scriptForms p s =
@@ -62,7 +56,7 @@ scriptForms p s =
     ∷ []
 
 unfoldable pub srcForm : ℕ → ℕ → List (Item Src) → List (Item Src)
-srcForm k p s = cond (ltb k 64) (getD (plainForms p s) k s) (getD (scriptForms p s) (k - 64) s)
+srcForm k p s = cond (ltb k 64) (onSrcs (formIn k) p s) (getD (scriptForms p s) (k - 64) s)
 
 abbrev pub srcStack : List ℕ → List (Item Src)
 srcStack w = stack null srcForm w
@@ -82,8 +76,8 @@ sameTable w (refused n) = none
 sameTable w (done T) = if sameBytes (encodeTable T) w then some T else none
 
 unfoldable pub tableOf : List ℕ → Option Table
-tableOf w = sameTable w (read (textOf (decodeTable w)))
+tableOf w = sameTable w (read operators (textOf (decodeTable w)))
 
 unfoldable pub TableReading : Unit {0}
-unfolding plainForms scriptForms srcForm decodeTable sameTable tableOf
+unfolding onSrcs scriptForms srcForm decodeTable sameTable tableOf
 TableReading = tt

@@ -5,21 +5,22 @@ use mathlib.Core.Path.{_≡_, refl, ap, _∙_}
 use mathlib.Core.Bool.{Bool, true, false, _||_}
 use mathlib.Core.List.{List, [], _∷_, _++_, map}
 use native.Mathlib.Omega.{arith}
-use borrow.Author.Tests.{eqb-true}
+use borrow.Author.Tests.{eqb-true, lt-ltb}
 use lib.ListN.{drop}
 use lib.Dec.{eqb}
-use Rattle.atlite.specs.Term.{this, Kind, plain, plus, percent, get, set, call, send, written, shape, sending}
+use Rattle.atlite.specs.Term.{this, Kind, plain, Op, call, send, written, shape, sending}
 use Rattle.atlite.specs.Valid.{isName}
 use Rattle.atlite.specs.Table.{countFields, countMethods, Named, Grammatical, GrammaticalAll, GrammaticalFields, GrammaticalMethods, GrammaticalLines, writable}
 use Rattle.atlite.specs.Script.{SrcOp, kept, ask, resolve, seq, Src, num, null, var, op, letIn, future, fn, when, literal, Srcs, nil, cons, SrcFields, noField, field, SrcMethods, noMethod, method, Line, expression, define, countSrcs}
 use Rattle.layout.specs.Pack.{node, zeros, flat}
-use Rattle.layout.specs.Terms.{tagged, asked, arguments, kindNumber, fieldHeader, methodHeader}
+use Rattle.layout.specs.Terms.{tagged, asked, arguments, opKind, kindNumber, fieldHeader, methodHeader}
 use Rattle.layout.specs.Tables.{srcKind, srcPayload, encodeSrc, encodeSrcs, encodeFields, encodeSrcMethods, encodeLine}
+use Rattle.layout.specs.Kinds.{Kinds, SrcRow, isBare, isField, isCall, isSend, src-row, op-kind, kind-small}
 use Rattle.layout.specs.Reading.{Item, alone, aField, aMethod, exprOf, fieldOf, methodOf, gather, push, stack}
-use Rattle.layout.specs.TableReading.{opIn, askedIn, literalIn, plainForms, scriptForms, srcForm, srcStack, lineIn}
+use Rattle.layout.specs.TableReading.{opIn, askedIn, literalIn, onSrcs, scriptForms, srcForm, srcStack, lineIn}
 use Rattle.layout.specs.PackLaws.{pack-low, pack-high, first-digit, third-digit, NameFits}
 use Rattle.layout.specs.ReadLaws.{push-node, push-field, push-definition, push-method, stack-two, stack-headed, stack-list, stack-lists, stack-exprs, stack-zeros}
-use Rattle.layout.specs.TermLaws.{op-kind-small, kind-small, OpFits}
+use Rattle.layout.specs.TermLaws.{bare-count, field-payload, field-count, OpFits}
 use Rattle.layout.specs.TermReads.{label-small}
 use Rattle.layout.specs.Fitting.{each-all, name-fits, shape-fits}
 
@@ -95,7 +96,7 @@ mutual
 
 -- ---- operators
 pub src-kind-small : (o : SrcOp) → srcKind o < 128
-src-kind-small (kept o) = omega (arith, op-kind-small o)
+src-kind-small (kept o) = omega (arith, op-kind (written o) .1)
 src-kind-small (ask m) = omega arith
 src-kind-small resolve = omega arith
 src-kind-small seq = omega arith
@@ -118,18 +119,29 @@ asked-in f m (cons e es) s h =
     let n = countSrcs es in
     rw (first-digit m 0 n l (omega arith), third-digit m 0 n l (omega arith)) (op-in (f m) (suc n) (cons e es) s refl)
 
-op-form : (w : ℕ) → w ≤ 64 → (o : SrcOp) (es : Srcs) (s : List (Item Src)) → writable w o (countSrcs es) ≡ true
-    → srcForm (srcKind o) (srcPayload o (countSrcs es)) (srcItems es ++ s) ≡ alone (op o es) ∷ s
-unfolding srcForm plainForms scriptForms
-op-form w l (kept plus) es s h = op-in (kept plus) 2 es s (shape-fits w l (shape plus) (countSrcs es) h)
-op-form w l (kept percent) es s h = op-in (kept percent) 2 es s (shape-fits w l (shape percent) (countSrcs es) h)
-op-form w l (kept (get f)) es s h = op-in (kept (get f)) 1 es s (shape-fits w l (shape (get f)) (countSrcs es) h .1)
-op-form w l (kept (set f)) es s h = op-in (kept (set f)) 2 es s (shape-fits w l (shape (set f)) (countSrcs es) h .1)
-op-form w l (kept (call m)) es s h = asked-in (λ m. kept (call m)) m es s (shape-fits w l (shape (call (plain m))) (countSrcs es) h)
-op-form w l (kept (send m)) es s h = asked-in (λ m. kept (send m)) m es s (shape-fits w l (shape (send (plain m))) (countSrcs es) h)
-op-form w l (ask m) es s h = asked-in ask m es s (shape-fits w l (shape (send (plain m))) (countSrcs es) h)
-op-form w l resolve es s h = op-in resolve 2 es s (eqb-true (countSrcs es) 2 h)
-op-form w l seq es s h = op-in seq 2 es s (eqb-true (countSrcs es) 2 h)
+module _ (w : ℕ) (l : w ≤ 64) where
+  fits : (o : Op ℕ) (n : ℕ) → writable w (kept o) n ≡ true → OpFits (written o) n
+  fits o n h = shape-fits w l (shape (written o)) n h
+
+  kept-form : (o : Op ℕ) → SrcRow o → (es : Srcs) (s : List (Item Src)) → writable w (kept o) (countSrcs es) ≡ true
+      → srcForm (srcKind (kept o)) (srcPayload (kept o) (countSrcs es)) (srcItems es ++ s) ≡ alone (op (kept o) es) ∷ s
+  unfolding Kinds srcForm onSrcs
+  kept-form _ (isBare o n e f) es s h =
+      let k : opKind (written o) < 64 = omega (arith, op-kind (written o) .1) in
+      rw (lt-ltb (opKind (written o)) 64 k, f) (op-in (kept o) n es s (bare-count o n (countSrcs es) e (fits o (countSrcs es) h)))
+  kept-form _ (isField c k n e x f) es s h =
+      let i : k < 64 = omega (arith, op-kind (written (c x)) .1, e .0 x .2) in
+      rw (e .0 x .2, lt-ltb k 64 i, f, field-payload c k n e x (countSrcs es)) (op-in (kept (c x)) n es s (field-count c k n e x (countSrcs es) (fits (c x) (countSrcs es) h) .1))
+  kept-form _ (isCall m) es s h = asked-in (λ m. kept (call m)) m es s (fits (call m) (countSrcs es) h)
+  kept-form _ (isSend m) es s h = asked-in (λ m. kept (send m)) m es s (fits (send m) (countSrcs es) h)
+
+  op-form : (o : SrcOp) (es : Srcs) (s : List (Item Src)) → writable w o (countSrcs es) ≡ true
+      → srcForm (srcKind o) (srcPayload o (countSrcs es)) (srcItems es ++ s) ≡ alone (op o es) ∷ s
+  unfolding srcForm scriptForms
+  op-form (kept o) es s h = kept-form o (src-row o) es s h
+  op-form (ask m) es s h = asked-in ask m es s (fits (send m) (countSrcs es) h)
+  op-form resolve es s h = op-in resolve 2 es s (eqb-true (countSrcs es) 2 h)
+  op-form seq es s h = op-in seq 2 es s (eqb-true (countSrcs es) 2 h)
 
 literal-in : (k : Kind) (fs : SrcFields) (ms : SrcMethods) (s : List (Item Src)) → countFields fs ≤ 4
     → literalIn k (countFields fs + 8 * countMethods ms) (fieldItems fs ++ (methodItems ms ++ s)) ≡ alone (literal k fs ms) ∷ s
@@ -146,18 +158,18 @@ literal-in k fs ms s h =
 
 literal-form : (k : Kind) (fs : SrcFields) (ms : SrcMethods) (s : List (Item Src)) → countFields fs ≤ 4
     → srcForm (kindNumber k) (countFields fs + 8 * countMethods ms) (fieldItems fs ++ (methodItems ms ++ s)) ≡ alone (literal k fs ms) ∷ s
-unfolding kindNumber srcForm plainForms
+unfolding Kinds srcForm onSrcs
 literal-form Kind.object fs ms s h = literal-in Kind.object fs ms s h
 literal-form Kind.isolate fs ms s h = literal-in Kind.isolate fs ms s h
 literal-form Kind.actor fs ms s h = literal-in Kind.actor fs ms s h
 
 future-form : (x y : ℕ) (e : Src) (s : List (Item Src)) → NameFits x → srcForm 12 (x + 128 * y) (alone e ∷ s) ≡ alone (future x y e) ∷ s
-unfolding srcForm plainForms
+unfolding srcForm Kinds onSrcs
 future-form x y e s h = let l : x < 128 = omega (arith, h) in rw (pack-low 128 x y l, pack-high 128 x y l)
 
 -- ---- the law
 mutual
-  unfolding encodeSrc stack Grammatical srcItems fieldItems methodItems srcForm plainForms scriptForms
+  unfolding encodeSrc stack Grammatical srcItems fieldItems methodItems srcForm Kinds onSrcs scriptForms
 
   pub read-src : (e : Src) (w : ℕ) (r : List ℕ) → w ≤ 64 → Grammatical w e → srcStack (encodeSrc e ++ r) ≡ alone e ∷ srcStack r
   read-src null w r l h = push-node null srcForm 1 0 (srcStack r) (omega arith) (omega arith)
@@ -171,7 +183,7 @@ mutual
   read-src (future x y e) w r l h =
       stack-list null srcForm 12 (x + 128 * y) (omega arith) (two-small w l x y (h .0) (h .1)) (encodeSrc e) r (alone e ∷ []) _ (read-src e w r l (h .2)) (future-form x y e (srcStack r) (name-fits w l x (h .0)))
   read-src (literal k fs ms) w r l h =
-      stack-lists null srcForm (kindNumber k) (countFields fs + 8 * countMethods ms) (omega (arith, kind-small k)) (omega (arith, h .0, h .2)) (encodeFields fs) (encodeSrcMethods ms) r (fieldItems fs) (methodItems ms) _
+      stack-lists null srcForm (kindNumber k) (countFields fs + 8 * countMethods ms) (kind-small k) (omega (arith, h .0, h .2)) (encodeFields fs) (encodeSrcMethods ms) r (fieldItems fs) (methodItems ms) _
       (read-fields fs w (encodeSrcMethods ms ++ r) l (h .1)) (read-methods ms w r l (h .3)) (literal-form k fs ms (srcStack r) (h .0))
   read-src (fn x e) w r l h = stack-list null srcForm 65 x (omega arith) (named-small w l x (h .0)) (encodeSrc e) r (alone e ∷ []) _ (read-src e w r l (h .1)) refl
   read-src (when a x b) w r l h =
@@ -197,7 +209,7 @@ mutual
 
 -- ---- lines
 pub read-zeros : (n : ℕ) → srcStack (zeros n) ≡ []
-unfolding srcForm plainForms
+unfolding srcForm Kinds onSrcs
 read-zeros n = stack-zeros null srcForm refl n
 
 pub read-lines : (w : ℕ) → w ≤ 64 → (ls : List Line) (r : List ℕ) → GrammaticalLines w ls → map lineIn (srcStack (flat encodeLine ls ++ r)) ≡ ls ++ map lineIn (srcStack r)

@@ -13,7 +13,7 @@ use Rattle.layout.specs.Terms.{variable, asked, arguments, opKind, opPay
 use Rattle.layout.specs.Layout.{encodeWord}
 
 abbrev pub srcKind : SrcOp → ℕ
-srcKind (kept o) = opKind o
+srcKind (kept o) = opKind (written o)
 srcKind (ask m) = 64
 srcKind resolve = 66
 srcKind seq = 68

@@ -2,7 +2,8 @@
 use Prim.Native.Nat.{ℕ, zero, suc, _/_, _%_}
 use mathlib.Core.List.{List, [], _∷_}
 use lib.ListN.{drop, getD}
-use Rattle.atlite.specs.Term.{Series, made, copied, Value, null, num, ref, Name, plain, twoWay, resolve, register, Op, plus, percent, get, set, call, send, Kind, Term, val, var, op, letIn, future, literal, Terms, nil, cons, Inits, noField, Methods, noMethod, method}
+use Rattle.atlite.specs.Term.{Series, made, copied, Value, null, num, ref, Name, plain, twoWay, resolve, register, Op, call, send, written, Kind, Term, val, var, op, letIn, future, literal, Terms, nil, cons, Inits, noField, Methods, noMethod, method}
+use Rattle.layout.specs.Kinds.{Kinds, Form, nothing, nullValue, number, reference, variable, bare, onField, calls, sends, formIn}
 use Rattle.layout.specs.Reading.{Item, alone, exprOf, fieldOf, methodOf, gather, first, stack}
 
 abbrev pub termsIn : ℕ → List (Item Term) → Terms
@@ -39,31 +40,23 @@ askedIn f p s = opIn (f (nameIn (p / 128 % 4) (p % 128))) (suc (p / 128 / 4)) s
 abbrev pub literalIn : Kind → ℕ → List (Item Term) → List (Item Term)
 literalIn k p s = alone (literal k (initsIn (p % 8) s) (methodsIn (p / 8) (drop (p % 8) s))) ∷ drop (p / 8) (drop (p % 8) s)
 
--- what the stack becomes, by the node's kind
-unfoldable pub termForms : ℕ → List (Item Term) → List (List (Item Term))
-termForms p s =
-    s
-    ∷ (alone (val null) ∷ s)
-    ∷ (alone (val (num p)) ∷ s)
-    ∷ (alone (val (refIn p)) ∷ s)
-    ∷ s
-    ∷ s
-    ∷ (alone (var p) ∷ s)
-    ∷ opIn plus 2 s
-    ∷ opIn percent 2 s
-    ∷ opIn (get p) 1 s
-    ∷ opIn (set p) 2 s
-    ∷ (alone (letIn p (first none s) (first none (drop 1 s))) ∷ drop 2 s)
-    ∷ (alone (future (p % 128) (p / 128) (first none s)) ∷ drop 1 s)
-    ∷ askedIn call p s
-    ∷ askedIn send p s
-    ∷ literalIn Kind.object p s
-    ∷ literalIn Kind.isolate p s
-    ∷ literalIn Kind.actor p s
-    ∷ []
+-- what the stack becomes, by the node's form
+unfoldable pub onTerms : Form → ℕ → List (Item Term) → List (Item Term)
+onTerms nothing p s = s
+onTerms nullValue p s = alone (val null) ∷ s
+onTerms number p s = alone (val (num p)) ∷ s
+onTerms reference p s = alone (val (refIn p)) ∷ s
+onTerms variable p s = alone (var p) ∷ s
+onTerms (bare o n e) p s = opIn (written o) n s
+onTerms (onField c k n e) p s = opIn (written (c p)) n s
+onTerms Form.letIn p s = alone (letIn p (first none s) (first none (drop 1 s))) ∷ drop 2 s
+onTerms Form.future p s = alone (future (p % 128) (p / 128) (first none s)) ∷ drop 1 s
+onTerms calls p s = askedIn call p s
+onTerms sends p s = askedIn send p s
+onTerms (Form.literal k) p s = literalIn k p s
 
 unfoldable pub termForm : ℕ → ℕ → List (Item Term) → List (Item Term)
-termForm k p s = getD (termForms p s) k s
+termForm k p s = onTerms (formIn k) p s
 
 abbrev pub termStack : List ℕ → List (Item Term)
 termStack w = stack none termForm w
@@ -75,5 +68,5 @@ unfoldable pub decodeValue : ℕ → Value
 decodeValue w = getD (null ∷ null ∷ num (w % 16777216) ∷ refIn (w % 16777216) ∷ []) (w / 16777216) null
 
 unfoldable pub TermReading : Unit {0}
-unfolding termForms termForm termAt decodeValue
+unfolding Kinds onTerms termForm termAt decodeValue
 TermReading = tt

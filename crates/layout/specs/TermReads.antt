@@ -5,14 +5,15 @@ use mathlib.Core.Path.{_≡_, refl, ap, ap₂, _∙_}
 use mathlib.Core.List.{List, [], _∷_, _++_}
 use native.Mathlib.Omega.{arith}
 use lib.ListN.{length, drop}
-use Rattle.atlite.specs.Term.{Series, made, copied, Value, null, num, ref, Name, plain, twoWay, resolve, register, Op, plus, percent, get, set, call, send, Shape, exactly, onField, calling, sending, shape, Kind, Term, val, var, op, letIn, future, literal, Terms, nil, cons, Inits, noField, Methods, noMethod, method, countTerms}
+use Rattle.atlite.specs.Term.{Series, made, copied, Value, null, num, ref, Name, plain, twoWay, resolve, register, Op, call, send, written, Shape, exactly, onField, calling, sending, shape, Kind, Term, val, var, op, letIn, future, literal, Terms, nil, cons, Inits, noField, Methods, noMethod, method, countTerms}
 use Rattle.layout.specs.Pack.{zeros, pad}
-use Rattle.layout.specs.Terms.{countInits, countMethods, seriesBit, encodeValue, tagged, asked, labelNumber, opKind, opPayload, kindNumber, fieldHeader, methodHeader, encodeTerm, encodeTerms, encodeInits, encodeMethods}
+use Rattle.layout.specs.Terms.{countInits, countMethods, seriesBit, encodeValue, tagged, asked, arguments, labelNumber, opKind, opPayload, kindNumber, fieldHeader, methodHeader, encodeTerm, encodeTerms, encodeInits, encodeMethods}
+use Rattle.layout.specs.Kinds.{Kinds, Row, isBare, isField, isCall, isSend, row, op-kind, kind-small}
 use Rattle.layout.specs.Reading.{Item, alone, aField, aMethod, gather, first, push, stack}
-use Rattle.layout.specs.TermReading.{termsIn, initsIn, methodsIn, nameIn, refIn, none, opIn, literalIn, termForms, termForm, termStack, termAt, decodeValue}
+use Rattle.layout.specs.TermReading.{termsIn, initsIn, methodsIn, nameIn, refIn, none, opIn, askedIn, literalIn, onTerms, termForm, termStack, termAt, decodeValue}
 use Rattle.layout.specs.PackLaws.{pack-low, pack-high, first-digit, second-digit, third-digit, NameFits}
 use Rattle.layout.specs.ReadLaws.{push-node, push-field, push-method, stack-two, stack-headed, stack-list, stack-lists, stack-exprs, stack-zeros}
-use Rattle.layout.specs.TermLaws.{op-kind-small, kind-small, ValueFits, NameOk, ShapeFits, OpFits, Fits, FitsAll, FitsInits, FitsMethods}
+use Rattle.layout.specs.TermLaws.{bare-count, field-payload, field-count, ValueFits, NameOk, ShapeFits, OpFits, Fits, FitsAll, FitsInits, FitsMethods}
 
 -- ---- values
 pub ref-back : (a : ℕ) (s : Series) (n : ℕ) → ValueFits (ref a s n) → refIn (n + 65536 * (seriesBit s + 2 * a)) ≡ ref a s n
@@ -42,7 +43,7 @@ value-nonzero (num n) = omega arith
 value-nonzero (ref a s n) = omega arith
 
 push-value : (v : Value) (s : List (Item Term)) → ValueFits v → push none termForm (encodeValue v) s ≡ alone (val v) ∷ s
-unfolding encodeValue termForms termForm
+unfolding encodeValue Kinds onTerms termForm
 push-value null s h = push-node none termForm 1 0 s (omega arith) (omega arith)
 push-value (num n) s h = push-node none termForm 2 n s h (omega arith)
 push-value (ref a t n) s h =
@@ -139,16 +140,18 @@ label-small (sending m) (suc n) h = omega (arith, asked-small m n (h .0) (h .1))
 op-in : (o : Op Name) (n : ℕ) (es : Terms) (s : List (Item Term)) → countTerms es ≡ n → opIn o n (termItems es ++ s) ≡ alone (op o es) ∷ s
 op-in o n es s h = rw (← h, terms-in es s, terms-past es s)
 
-op-form : (o : Op Name) (es : Terms) (s : List (Item Term)) → OpFits o (countTerms es) → termForm (opKind o) (opPayload o (countTerms es)) (termItems es ++ s) ≡ alone (op o es) ∷ s
-unfolding termForms termForm countTerms
-op-form plus es s h = op-in plus 2 es s h
-op-form percent es s h = op-in percent 2 es s h
-op-form (get f) es s h = op-in (get f) 1 es s (h .1)
-op-form (set f) es s h = op-in (set f) 2 es s (h .1)
-op-form (call m) nil s h = absurd h
-op-form (call m) (cons e es) s h = let n = countTerms es in rw (asked-name m n (h .0), asked-count m n (h .0)) (op-in (call m) (suc n) (cons e es) s refl)
-op-form (send m) nil s h = absurd h
-op-form (send m) (cons e es) s h = let n = countTerms es in rw (asked-name m n (h .0), asked-count m n (h .0)) (op-in (send m) (suc n) (cons e es) s refl)
+asked-form : (c : Name → Op Name) (m : Name) (es : Terms) (s : List (Item Term)) → ShapeFits (sending m) (countTerms es)
+    → askedIn c (asked m (arguments (countTerms es))) (termItems es ++ s) ≡ alone (op (c m) es) ∷ s
+unfolding countTerms
+asked-form c m nil s h = absurd h
+asked-form c m (cons e es) s h = let n = countTerms es in rw (asked-name m n (h .0), asked-count m n (h .0)) (op-in (c m) (suc n) (cons e es) s refl)
+
+op-form : (o : Op Name) → Row o → (es : Terms) (s : List (Item Term)) → OpFits o (countTerms es) → termForm (opKind o) (opPayload o (countTerms es)) (termItems es ++ s) ≡ alone (op o es) ∷ s
+unfolding Kinds onTerms termForm
+op-form _ (isBare o n e f w) es s h = rw f (op-in (written o) n es s (bare-count o n (countTerms es) e h))
+op-form _ (isField c k n e x f w) es s h = rw (e .0 x .2, f, field-payload c k n e x (countTerms es)) (op-in (written (c x)) n es s (field-count c k n e x (countTerms es) h .1))
+op-form _ (isCall m) es s h = asked-form call m es s h
+op-form _ (isSend m) es s h = asked-form send m es s h
 
 literal-in : (k : Kind) (fs : Inits) (ms : Methods) (s : List (Item Term)) → countInits fs < 8
     → literalIn k (countInits fs + 8 * countMethods ms) (initItems fs ++ (methodItems ms ++ s)) ≡ alone (literal k fs ms) ∷ s
@@ -164,31 +167,31 @@ literal-in k fs ms s h =
 
 literal-form : (k : Kind) (fs : Inits) (ms : Methods) (s : List (Item Term)) → countInits fs < 8
     → termForm (kindNumber k) (countInits fs + 8 * countMethods ms) (initItems fs ++ (methodItems ms ++ s)) ≡ alone (literal k fs ms) ∷ s
-unfolding kindNumber termForms termForm
+unfolding Kinds onTerms termForm
 literal-form Kind.object fs ms s h = literal-in Kind.object fs ms s h
 literal-form Kind.isolate fs ms s h = literal-in Kind.isolate fs ms s h
 literal-form Kind.actor fs ms s h = literal-in Kind.actor fs ms s h
 
 future-form : (x y : ℕ) (e : Term) (s : List (Item Term)) → NameFits x → termForm 12 (x + 128 * y) (alone e ∷ s) ≡ alone (future x y e) ∷ s
-unfolding termForms termForm
+unfolding Kinds onTerms termForm
 future-form x y e s h = let l : x < 128 = omega (arith, h) in rw (pack-low 128 x y l, pack-high 128 x y l)
 
 -- ---- the law
 mutual
-  unfolding encodeTerm stack Fits termItems initItems methodItems termForms termForm
+  unfolding encodeTerm stack Fits termItems initItems methodItems Kinds onTerms termForm
 
   pub read-term : (e : Term) (r : List ℕ) → Fits e → termStack (encodeTerm e ++ r) ≡ alone e ∷ termStack r
   read-term (val v) r h = push-value v (termStack r) h
   read-term (var x) r h = push-node none termForm 6 x (termStack r) (omega (arith, h)) (omega arith)
   read-term (op o es) r h =
       let n = countTerms es in
-      stack-list none termForm (opKind o) (opPayload o n) (omega (arith, op-kind-small o)) (label-small (shape o) n (h .0)) (encodeTerms es) r (termItems es) _ (read-terms es r (h .1)) (op-form o es (termStack r) (h .0))
+      stack-list none termForm (opKind o) (opPayload o n) (omega (arith, op-kind o .1)) (label-small (shape o) n (h .0)) (encodeTerms es) r (termItems es) _ (read-terms es r (h .1)) (op-form o (row o) es (termStack r) (h .0))
   read-term (letIn x a b) r h =
       stack-exprs none termForm 11 x (omega arith) (omega (arith, h .0)) (encodeTerm a) (encodeTerm b) r a b (letIn x a b) (read-term a (encodeTerm b ++ r) (h .1)) (read-term b r (h .2)) refl
   read-term (future x y e) r h =
       stack-list none termForm 12 (x + 128 * y) (omega arith) (omega (arith, h .0, h .1)) (encodeTerm e) r (alone e ∷ []) _ (read-term e r (h .2)) (future-form x y e (termStack r) (h .0))
   read-term (literal k fs ms) r h =
-      stack-lists none termForm (kindNumber k) (countInits fs + 8 * countMethods ms) (omega (arith, kind-small k)) (omega (arith, h .0, h .1)) (encodeInits fs) (encodeMethods ms) r (initItems fs) (methodItems ms) _
+      stack-lists none termForm (kindNumber k) (countInits fs + 8 * countMethods ms) (kind-small k) (omega (arith, h .0, h .1)) (encodeInits fs) (encodeMethods ms) r (initItems fs) (methodItems ms) _
       (read-inits fs (encodeMethods ms ++ r) (h .2)) (read-methods ms r (h .3)) (literal-form k fs ms (termStack r) (h .0))
 
   pub read-terms : (es : Terms) (r : List ℕ) → FitsAll es → termStack (encodeTerms es ++ r) ≡ termItems es ++ termStack r
@@ -209,7 +212,7 @@ mutual
 
 -- zeros are read as nothing
 pub read-zeros : (n : ℕ) → termStack (zeros n) ≡ []
-unfolding termForms termForm
+unfolding Kinds onTerms termForm
 read-zeros n = stack-zeros none termForm refl n
 
 pub term-back : (n : ℕ) (e : Term) → Fits e → termAt (pad n (encodeTerm e)) ≡ e
