@@ -15,12 +15,12 @@ use Rattle.atlite.specs.Reader.{item, atom, readAtom, readWord}
 use Rattle.atlite.specs.Facts.{same-true, same-false-sym}
 use Rattle.words.specs.Wide.{wide, wideSrc}
 use Rattle.scan.specs.Runs.{Run, Starts}
-use Rattle.parse.specs.declared.Number.{Number as Numbers}
-use Rattle.parse.specs.declared.Number.the-variants.{Is, Not}
-use Rattle.parse.specs.declared.Name.{Name}
-use Rattle.parse.specs.declared.Name.the-variants.{Word, NoWord}
-use Rattle.parse.specs.declared.Step.{Step}
-use Rattle.parse.specs.declared.Step.the-variants.{Done, Bad}
+use Rattle.parse.specs.declared.numbers.Number.{Number as Numbers}
+use Rattle.parse.specs.declared.numbers.Number.the-variants.{Is, Not}
+use Rattle.parse.specs.declared.names.Name.{Name}
+use Rattle.parse.specs.declared.names.Name.the-variants.{Word, NoWord}
+use Rattle.parse.specs.declared.scratch.Step.{Step}
+use Rattle.parse.specs.declared.scratch.Step.the-variants.{Done, Bad}
 use Rattle.parse.specs.Atoms.{NumberIs, Named, NameOf}
 use Rattle.parse.specs.NameLaws.{eat-starts, eat-not, starts-room, name-small}
 use Rattle.parse.specs.Steps.{Took, Closed}

@@ -9,10 +9,10 @@ use Rattle.atlite.specs.Base.{Result, done, refused, all}
 use Rattle.atlite.specs.Lexicon.{Bytes, isDigit, isNumber, decimal, dictionary}
 use Rattle.atlite.specs.Reader.{readWord, spacedWord}
 use Rattle.scan.specs.Codes.{Holds}
-use Rattle.parse.specs.declared.Number.{Number as Numbers}
-use Rattle.parse.specs.declared.Number.the-variants.{Is, Not}
-use Rattle.parse.specs.declared.Name.{Name}
-use Rattle.parse.specs.declared.Name.the-variants.{Word, NoWord}
+use Rattle.parse.specs.declared.numbers.Number.{Number as Numbers}
+use Rattle.parse.specs.declared.numbers.Number.the-variants.{Is, Not}
+use Rattle.parse.specs.declared.names.Name.{Name}
+use Rattle.parse.specs.declared.names.Name.the-variants.{Word, NoWord}
 
 -- the number of a run of digits
 unfoldable pub Digits : Bytes → Numbers → Type 0

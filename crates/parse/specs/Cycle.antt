@@ -1,11 +1,12 @@
 -- The laws of the descent, a set for each function. Assumes nothing.
 use borrow.Author.Needs.{needs}
 use Rattle.parse.specs.NameLaws.{starts-room, name-small}
-use Rattle.parse.specs.Heads.{spaced-small, spaced-within}
-use Rattle.parse.specs.StepLaws.{place-step, place-form, fall-step, fall-step-more, place-word, place-name, fall-word, fall-word-more, fall-name, fall₁, fall₂, fall₃, place-more, place-space, place-run, spaced-so, spaced-not, one-done, one-bad, two-first-bad, get-done, get-bad, get-first-bad, mid-word-bad, mid-first-bad, send-word-bad, send-first-bad, args-close, args-full, args-bad, args-more, step-within, args-small, fall-open, fall-more}
-use Rattle.parse.specs.PartLaws.{two-part, last-done, last-bad, argued-done, argued-bad, mid-part, send-part}
+use Rattle.parse.specs.Headers.{spaced-small, spaced-within}
+use Rattle.parse.specs.StepLaws.{place-step, place-form, fall-step, fall-step-more, place-word, place-name, fall-word, fall-word-more, fall-name, fall₁, fall₂, fall₃, place-more, place-space, place-run, spaced-so, spaced-not, one-done, one-bad, two-first-bad, get-done, get-bad, get-first-bad, mid-word-bad, mid-first-bad, send-word-bad, send-first-bad, step-within, fall-open, fall-more}
+use Rattle.parse.specs.PartLaws.{two-part, last-done, last-bad, mid-part, send-part}
+use Rattle.parse.specs.ArgumentLaws.{args-close, args-full, args-bad, args-more, argued-done, argued-bad, args-small}
 use Rattle.parse.specs.FormLaws.{expr-open, expr-atom, bracket-form, form-plus, form-percent, form-resolve, form-seq, form-get, form-set, form-when, form-call, form-message, form-ask, form-object, form-isolate, form-actor, form-let, form-future, form-fn, let-bad, let-done, fn-bad, fn-done, future-bad, future-later-bad, future-done}
-use Rattle.parse.specs.ListLaws.{place-list, fall-list, list-few, fields-full, fields-more, fields-none, field-bad, field-value-bad, field-done, literal-bad, literal-done, ended-done, ended-bad}
+use Rattle.parse.specs.LiteralLaws.{place-list, fall-list, list-few, fields-full, fields-more, fields-none, field-bad, field-value-bad, field-done, literal-bad, literal-done, ended-done, ended-bad}
 use Rattle.parse.specs.MethodLaws.{methods-full, methods-more, methods-none, method-bad, method-value-bad, method-done, place-header, fall-header}
 
 pub ruleset spaced-place = (place-space)

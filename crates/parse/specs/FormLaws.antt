@@ -21,10 +21,10 @@ use Rattle.layout.specs.Terms.{kindNumber}
 use Rattle.layout.specs.Tables.{srcKind}
 use Rattle.words.specs.Wide.{wide, pair, widePayload, wideSrc}
 use Rattle.scan.specs.Runs.{Run, Starts, index}
-use Rattle.parse.specs.declared.Name.{Name}
-use Rattle.parse.specs.declared.Name.the-variants.{Word, NoWord}
-use Rattle.parse.specs.declared.Step.{Step}
-use Rattle.parse.specs.declared.Step.the-variants.{Done, Bad}
+use Rattle.parse.specs.declared.names.Name.{Name}
+use Rattle.parse.specs.declared.names.Name.the-variants.{Word, NoWord}
+use Rattle.parse.specs.declared.scratch.Step.{Step}
+use Rattle.parse.specs.declared.scratch.Step.the-variants.{Done, Bad}
 use Rattle.parse.specs.Atoms.{SpacedName}
 use Rattle.parse.specs.Steps.{Took, Reads, exprs, brackets, formBy, forms, readOne, ones, oneWords, readPair, twos, twoWords, readGet, gets, getWords, readMid, mids, midWords, readArgs, readSend, sends, sendWords, readLiteral, literals, literalWords}
 use Rattle.parse.specs.NameLaws.{starts-room, spaced-read, spaced-refused}

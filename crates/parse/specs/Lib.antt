@@ -1,6 +1,6 @@
 -- what the functions answer
 pub mod Atoms
-pub mod Heads
+pub mod Headers
 pub mod Steps
 -- laws, one for each way to return
 pub mod NumberLaws
@@ -8,7 +8,8 @@ pub mod NameLaws
 pub mod AtomLaws
 pub mod StepLaws
 pub mod FormLaws
-pub mod ListLaws
+pub mod ArgumentLaws
+pub mod LiteralLaws
 pub mod MethodLaws
 pub mod PartLaws
 pub mod Cycle

@@ -14,10 +14,10 @@ use Rattle.atlite.specs.Keywords.{operators}
 use Rattle.atlite.specs.Reader.{Reading, eat, readWord, readExpr, readDefinition, readLine}
 use Rattle.words.specs.Wide.{wide, wideSrc, wideLine}
 use Rattle.scan.specs.Runs.{Starts}
-use Rattle.parse.specs.declared.Name.{Name}
-use Rattle.parse.specs.declared.Name.the-variants.{Word, NoWord}
-use Rattle.parse.specs.declared.Step.{Step}
-use Rattle.parse.specs.declared.Step.the-variants.{Done, Bad}
+use Rattle.parse.specs.declared.names.Name.{Name}
+use Rattle.parse.specs.declared.names.Name.the-variants.{Word, NoWord}
+use Rattle.parse.specs.declared.scratch.Step.{Step}
+use Rattle.parse.specs.declared.scratch.Step.the-variants.{Done, Bad}
 use Rattle.parse.specs.Atoms.{NameRead, Named, NameOf}
 use Rattle.parse.specs.NameLaws.{eat-starts, eat-not, starts-room, name-small}
 use Rattle.parse.specs.Steps.{Read, Took, Reads, exprs, readOne, ones, oneWords}

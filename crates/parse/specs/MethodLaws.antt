@@ -13,16 +13,16 @@ use Rattle.atlite.specs.Keywords.{operators}
 use Rattle.atlite.specs.Reader.{readMethods, readExpr}
 use Rattle.words.specs.Wide.{wideSrc, wideMethods}
 use Rattle.scan.specs.Runs.{Starts}
-use Rattle.parse.specs.declared.Header.{Header}
-use Rattle.parse.specs.declared.Header.the-variants.{Head, NoHead}
-use Rattle.parse.specs.declared.Step.{Step}
-use Rattle.parse.specs.declared.Step.the-variants.{Done, Bad}
-use Rattle.parse.specs.declared.Listed.{Listed}
-use Rattle.parse.specs.declared.Listed.the-variants.{Items, NoItems}
-use Rattle.parse.specs.Heads.{HeadRead, TookHead, HeaderOf, readAll, readHeader}
+use Rattle.parse.specs.declared.headers.Header.{Header}
+use Rattle.parse.specs.declared.headers.Header.the-variants.{Head, NoHead}
+use Rattle.parse.specs.declared.scratch.Step.{Step}
+use Rattle.parse.specs.declared.scratch.Step.the-variants.{Done, Bad}
+use Rattle.parse.specs.declared.scratch.Listed.{Listed}
+use Rattle.parse.specs.declared.scratch.Listed.the-variants.{Items, NoItems}
+use Rattle.parse.specs.Headers.{HeadRead, TookHead, HeaderOf, readAll, readHeader}
 use Rattle.parse.specs.Steps.{Place, Reads, ListRead, TookList, Lists, readOne, ones, oneWords, methodsFrom, methodAt}
 use Rattle.parse.specs.FormLaws.{bind-assoc}
-use Rattle.parse.specs.ListLaws.{item-core, OneRead, value-bad, value}
+use Rattle.parse.specs.LiteralLaws.{item-core, OneRead, value-bad, value}
 
 -- ---- methods
 module _ (t : Bytes) (at o b : ℕ) (old new : List ℕ) where

@@ -17,8 +17,8 @@ use Rattle.scan.specs.Runs.{Run, Starts, index}
 use Rattle.scan.specs.Keywords.{index-le}
 use Rattle.scan.specs.Codes.{lowPart, highPart, Placed}
 use Rattle.scan.specs.Scans.{word-nonempty, word-is, not-apply, word-room}
-use Rattle.parse.specs.declared.Name.{Name}
-use Rattle.parse.specs.declared.Name.the-variants.{Word, NoWord}
+use Rattle.parse.specs.declared.names.Name.{Name}
+use Rattle.parse.specs.declared.names.Name.the-variants.{Word, NoWord}
 use Rattle.parse.specs.Atoms.{Ready, NameRead, Named, NameOf, SpacedName}
 
 -- ---- places

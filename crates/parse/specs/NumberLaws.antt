@@ -16,8 +16,8 @@ use mir.Syntax.{w64}
 use Rattle.atlite.specs.Base.{all}
 use Rattle.atlite.specs.Lexicon.{Bytes, isDigit, isNumber, decimal}
 use Rattle.atlite.specs.Facts.{and₂}
-use Rattle.parse.specs.declared.Number.{Number as Numbers}
-use Rattle.parse.specs.declared.Number.the-variants.{Is, Not}
+use Rattle.parse.specs.declared.numbers.Number.{Number as Numbers}
+use Rattle.parse.specs.declared.numbers.Number.the-variants.{Is, Not}
 use Rattle.parse.specs.Atoms.{Digits, NumberIs, Counted}
 
 module _ (t : Bytes) (at e : ℕ) (h : (at ≤ e) × (e ≤ length t) × (e - at ≤ 8)) where

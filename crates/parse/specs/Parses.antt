@@ -18,8 +18,8 @@ use Rattle.atlite.specs.Facts.{Every, holds, every-done, given}
 use Rattle.layout.specs.Pack.{flat}
 use Rattle.words.specs.Wide.{wideLine, wideLines}
 use Rattle.scan.specs.Runs.{Starts}
-use Rattle.parse.specs.declared.Step.{Step}
-use Rattle.parse.specs.declared.Step.the-variants as step
+use Rattle.parse.specs.declared.scratch.Step.{Step}
+use Rattle.parse.specs.declared.scratch.Step.the-variants as step
 use Rattle.parse.specs.declared.Parsed.{Parsed}
 use Rattle.parse.specs.declared.Parsed.the-variants.{Done, Bad}
 use Rattle.parse.specs.Steps.{Place, Read, Took, Reads}

@@ -11,14 +11,12 @@ use Rattle.atlite.specs.Script.{Src, countSrcs}
 use Rattle.atlite.specs.Keywords.{operators}
 use Rattle.atlite.specs.Reader.{spaced, spacedWord, readExpr}
 use Rattle.words.specs.Wide.{wide, pair, wideSrc, wideSrcs}
-use Rattle.parse.specs.declared.Name.{Name}
-use Rattle.parse.specs.declared.Name.the-variants.{Word}
-use Rattle.parse.specs.declared.Step.{Step}
-use Rattle.parse.specs.declared.Step.the-variants.{Done, Bad}
-use Rattle.parse.specs.declared.Listed.{Listed}
-use Rattle.parse.specs.declared.Listed.the-variants.{Items, NoItems}
+use Rattle.parse.specs.declared.names.Name.{Name}
+use Rattle.parse.specs.declared.names.Name.the-variants.{Word}
+use Rattle.parse.specs.declared.scratch.Step.{Step}
+use Rattle.parse.specs.declared.scratch.Step.the-variants.{Done, Bad}
 use Rattle.parse.specs.Atoms.{NameRead, SpacedName}
-use Rattle.parse.specs.Steps.{readArgs, Read, Took, Reads, Closed, ListRead, TookList, Lists, TookPart, Lasts, Argued, spaceds, readOne, readPair, twos, twoWords, readMid, mids, midWords, readSend, sends, sendWords, argsFrom}
+use Rattle.parse.specs.Steps.{readArgs, Read, Took, Reads, Closed, TookPart, Lasts, Argued, spaceds, readOne, readPair, twos, twoWords, readMid, mids, midWords, readSend, sends, sendWords}
 use Rattle.layout.specs.Writes.{sets-append}
 use Rattle.parse.specs.NameLaws.{spaced-read}
 use Rattle.parse.specs.StepLaws.{headed}
@@ -56,35 +54,6 @@ module _ (t : Bytes) (at p o w : ℕ) (old m₁ new : List ℕ) (a : Step) (s : 
   pub last-bad : a ≡ Bad → Lasts w t at p old o new Bad
   unfolding Lasts TookPart Reads Took spaceds readOne
   last-bad e n l = let z = rw e at (s n l) in rw z
-
-module _ (t : Bytes) (at p o k m : ℕ) (old m₁ new : List ℕ) (b : Listed) (s : Lists wideSrcs countSrcs 3 0 (argsFrom 0 t) t at p old m₁ b) where
-  pub argued-bad : b ≡ NoItems → Argued k m t at p old o new Bad
-  unfolding Argued TookPart Lists TookList argsFrom readArgs
-  argued-bad e n l = rw e at (s n l)
-
-  argued-core : (n l q c w : ℕ) (r : Step) → ListRead wideSrcs countSrcs 3 0 t at p old m₁ (readArgs (readExpr operators n (dictionary t)) (drop at t)) l q c
-      → w ≡ wide k (pair m c) → r ≡ Done l q → new ≡ set m₁ o w
-      → TookPart 0 wideSrcs (λ es. wide k (pair m (countSrcs es))) t at p old o new (readArgs (readExpr operators n (dictionary t)) (drop at t)) r
-  unfolding TookPart
-  argued-core n l q c w r x h e u =
-      let b₁ = x .short in
-      let f = x .far in
-      let a₁ = x .ends in
-      let num = x .counted in
-      let whole : w ≡ wide k (pair m (countSrcs (x .value))) = omega arith in
-      rw e (record {
-        value = x .value;
-        is = x .is;
-        far = omega arith;
-        within = x .within;
-        wrote = u ∙ ap (λ (y : List ℕ). set y o w) (x .wrote) ∙ ap (λ (y : ℕ). set (sets old p (wideSrcs (x .value))) o y) whole;
-        ends = a₁;
-        short = omega arith;
-      })
-
-  pub argued-done : (l q c w : ℕ) (r : Step) → b ≡ Items l q c → w ≡ wide k (pair m c) → r ≡ Done l q → new ≡ set m₁ o w → Argued k m t at p old o new r
-  unfolding Argued Lists TookList argsFrom readArgs
-  argued-done l q c w r d h e u n i = argued-core n l q c w r (rw d at (s n i)) h e u
 
 -- ---- behind an expression
 module _ (t : Bytes) (at o : ℕ) (old m₁ new : List ℕ) (a : Step) (s : Reads wideSrc (spaceds t) t at (o + 1) old m₁ a) (i p : ℕ) (e : a ≡ Done i p) where

@@ -2,28 +2,25 @@
 use mathlib.Core.Path.{_≡_, refl, ap, _∙_}
 use mathlib.Core.Bool.{Bool, true, false}
 use mathlib.Core.List.{List, [], _∷_}
-use Prim.Native.Nat.{ℕ, zero, suc, _+_, _-_, _*_, _≤_, _<_}
+use Prim.Native.Nat.{ℕ, suc, _+_, _-_, _*_, _≤_, _<_}
 use native.Mathlib.Numerals.{add-one}
 use native.Mathlib.Omega.{arith}
-use lib.ListN.{length, drop, set, length-append}
+use lib.ListN.{length, drop, set}
 use lib.Seq.{sets, set-comm}
 use Rattle.atlite.specs.Base.{Result, done, refused, _>>=_}
 use Rattle.atlite.specs.Lexicon.{Bytes, dictionary}
-use Rattle.atlite.specs.Script.{Src, Srcs, countSrcs}
+use Rattle.atlite.specs.Script.{Src}
 use Rattle.atlite.specs.Keywords.{operators}
-use Rattle.atlite.specs.Reader.{Reading, eat, spaced, spacedWord, readItems, readExpr}
-use Rattle.layout.specs.Writes.{sets-append}
-use Rattle.words.specs.Wide.{wide, wideSrc, wideSrcs}
+use Rattle.atlite.specs.Reader.{Reading, eat, spaced, spacedWord, readExpr}
+use Rattle.words.specs.Wide.{wide, wideSrc}
 use Rattle.scan.specs.Runs.{Run, Starts}
-use Rattle.parse.specs.declared.Name.{Name}
-use Rattle.parse.specs.declared.Name.the-variants.{Word, NoWord}
-use Rattle.parse.specs.declared.Step.{Step}
-use Rattle.parse.specs.declared.Step.the-variants.{Done, Bad}
-use Rattle.parse.specs.declared.Listed.{Listed}
-use Rattle.parse.specs.declared.Listed.the-variants.{Items, NoItems}
+use Rattle.parse.specs.declared.names.Name.{Name}
+use Rattle.parse.specs.declared.names.Name.the-variants.{Word, NoWord}
+use Rattle.parse.specs.declared.scratch.Step.{Step}
+use Rattle.parse.specs.declared.scratch.Step.the-variants.{Done, Bad}
 use Rattle.parse.specs.Atoms.{NameRead, Named, NameOf, SpacedName}
-use Rattle.parse.specs.NameLaws.{eat-starts, eat-not, closes, open-still, starts-room, spaced-read, spaced-refused}
-use Rattle.parse.specs.Steps.{Place, Read, Took, Reads, Closed, ListRead, TookList, Lists, spaceds, exprs, readOne, ones, oneWords, readPair, twos, twoWords, readGet, gets, getWords, readMid, mids, midWords, readSend, sends, sendWords, argsFrom}
+use Rattle.parse.specs.NameLaws.{eat-starts, eat-not, starts-room, spaced-read, spaced-refused}
+use Rattle.parse.specs.Steps.{Place, Read, Took, Reads, Closed, spaceds, exprs, readOne, ones, oneWords, readPair, twos, twoWords, readGet, gets, getWords, readMid, mids, midWords, readSend, sends, sendWords}
 
 -- ---- writes
 set-before : (xs l : List ℕ) (i k h : ℕ) → i < k → set (sets l k xs) i h ≡ sets (set l i h) k xs
@@ -146,7 +143,7 @@ module _ (t : Bytes) (at o : ℕ) (old new : List ℕ) (r : Bool) (s : Starts t 
   spaced-not k n l = rw (eat-not t at 32 r s k)
 
 -- ---- one expression, and two
-Spaced : Bytes → ℕ → ℕ → ℕ → List ℕ → List ℕ → ℕ → ℕ → Type 0
+unfoldable pub Spaced : Bytes → ℕ → ℕ → ℕ → List ℕ → List ℕ → ℕ → ℕ → Type 0
 Spaced t n at o old new i p = Read wideSrc t at o old new (spaced (readExpr operators n (dictionary t)) (drop at t)) i p
 
 module _ (t : Bytes) (at o : ℕ) (old m₁ new : List ℕ) (a : Step) (s : Reads wideSrc (spaceds t) t at (o + 1) old m₁ a) where
@@ -220,92 +217,10 @@ module _ (t : Bytes) (at o : ℕ) (old m₁ new : List ℕ) (a : Step) (s : Read
   unfolding Reads Took sends readSend
   send-first-bad k e n l = rw (first-bad n l e)
 
--- ---- arguments
-module _ (t : Bytes) (at o b : ℕ) (old new : List ℕ) (r : Bool) (s : Starts t at (41 ∷ []) r) where
-  args-end : (n k : ℕ) → r ≡ true → readItems Srcs.nil Srcs.cons (readExpr operators n (dictionary t)) k (drop at t) ≡ done (Srcs.nil, drop (at + 1) t)
-  unfolding readItems
-  args-end n zero e = rw (eat-starts t at 41 r s e)
-  args-end n (suc k) e = rw (closes t at r s e, readItems)
-
-  pub args-close : r ≡ true → b ≤ 3 → Lists wideSrcs countSrcs 3 b (argsFrom b t) t at o old old (Items (at + 1) o b)
-  unfolding Lists TookList argsFrom wideSrc countSrcs
-  args-close e h n l = record {
-    value = Srcs.nil;
-    is = args-end n (3 - b) e;
-    far = omega arith;
-    within = starts-room t at 1 (41 ∷ []) r s e refl;
-    wrote = refl;
-    ends = omega arith;
-    short = omega arith;
-    counted = omega arith;
-    few = h;
-  }
-
-  pub args-full : r ≡ false → b ≡ 3 → Lists wideSrcs countSrcs 3 b (argsFrom b t) t at o old new NoItems
-  unfolding Lists TookList argsFrom readItems
-  args-full e h n l = rw h (rw (eat-not t at 41 r s e))
-
-  module _ (e : r ≡ false) (h : b ≤ 3) (z : b ≡ 3 → ⊥) (m₁ : List ℕ) (a : Step) (u : Reads wideSrc (spaceds t) t at o old m₁ a) where
-    left : 3 - b ≡ suc (3 - (b + 1))
-    left = omega arith
-
-    args-worse : (n k : ℕ) → spaced (readExpr operators n (dictionary t)) (drop at t) ≡ refused 2
-        → readItems Srcs.nil Srcs.cons (readExpr operators n (dictionary t)) (suc k) (drop at t) ≡ refused 2
-    unfolding readItems
-    args-worse n k p = rw (open-still t at r s e, readItems) (rw p)
-
-    pub args-bad : a ≡ Bad → Lists wideSrcs countSrcs 3 b (argsFrom b t) t at o old new NoItems
-    unfolding Lists TookList argsFrom Reads Took spaceds
-    args-bad d n l = rw left (args-worse n (3 - (b + 1)) (rw d at (u n l)))
-
-    Tail : ℕ → ℕ → ℕ → ℕ → ℕ → ℕ → Type 0
-    Tail n i p k q c = ListRead wideSrcs countSrcs 3 (b + 1) t i p m₁ new (readItems Srcs.nil Srcs.cons (readExpr operators n (dictionary t)) (3 - (b + 1)) (drop i t)) k q c
-
-    args-next : (n i p k q c : ℕ) → Spaced t n at o old m₁ i p → Tail n i p k q c
-        → ListRead wideSrcs countSrcs 3 b t at o old new (readItems Srcs.nil Srcs.cons (readExpr operators n (dictionary t)) (suc (3 - (b + 1))) (drop at t)) k q c
-    unfolding readItems wideSrc countSrcs Spaced Tail
-    args-next n i p k q c x y =
-        let b₁ = x .short in
-        let b₂ = y .short in
-        let f = x .far in
-        let g = y .far in
-        let a₁ = x .ends in
-        let a₂ = y .ends in
-        let num = y .counted in
-        record {
-          value = Srcs.cons (x .value) (y .value);
-          is = rw (open-still t at r s e, readItems) (rw (x .is) (rw (y .is)));
-          far = omega arith;
-          within = y .within;
-          wrote = y .wrote ∙ rw (x .wrote, a₁) (sets-append (wideSrc (x .value)) (wideSrcs (y .value)) old o);
-          ends = omega (arith, length-append (wideSrc (x .value)) (wideSrcs (y .value)));
-          short = omega arith;
-          counted = omega arith;
-          few = y .few;
-        }
-
-    args-last : (n i : ℕ) (v : Src) → spaced (readExpr operators n (dictionary t)) (drop at t) ≡ done (v, drop i t)
-        → readItems Srcs.nil Srcs.cons (readExpr operators n (dictionary t)) (3 - (b + 1)) (drop i t) ≡ refused 2
-        → readItems Srcs.nil Srcs.cons (readExpr operators n (dictionary t)) (suc (3 - (b + 1))) (drop at t) ≡ refused 2
-    unfolding readItems
-    args-last n i v x y = rw (open-still t at r s e, readItems) (rw x (rw y))
-
-    pub args-more : (i p : ℕ) (c : Listed) → a ≡ Done i p → Lists wideSrcs countSrcs 3 (b + 1) (argsFrom (b + 1) t) t i p m₁ new c
-        → Lists wideSrcs countSrcs 3 b (argsFrom b t) t at o old new c
-    unfolding Lists TookList argsFrom Reads Took spaceds Spaced Tail
-    args-more i p (Items k q c) d v n l =
-        let x = rw d at (u n l) in let f = x .far in rw left (args-next n i p k q c x (v n (omega arith)))
-    args-more i p NoItems d v n l =
-        let x = rw d at (u n l) in let f = x .far in rw left (args-last n i (x .value) (x .is) (v n (omega arith)))
-
 -- ---- what the calls ask
 pub step-within : (A : Type 0) (enc : A → List ℕ) (R : ℕ → Reading A) (t : Bytes) (at o : ℕ) (old new : List ℕ) (a : Step) (i p : ℕ)
     → a ≡ Done i p → Reads enc R t at o old new a → i ≤ length t
 step-within A enc R t at o old new a i p e s = let r = once A enc R t at o old new a i p e s in r .within
-
-pub args-small : (t : Bytes) (at o : ℕ) (old new : List ℕ) (b : Listed) (l q c : ℕ) → b ≡ Items l q c → Lists wideSrcs countSrcs 3 0 (argsFrom 0 t) t at o old new b → c < 4096
-unfolding Lists TookList
-args-small t at o old new b l q c e s = let r = rw e at (s (length t - at + 1) (omega arith)) in let f = r .few in omega arith
 
 pub fall-open : (t : Bytes) (at τ : ℕ) (r : Bool) → Starts t at (40 ∷ []) r → r ≡ true → 6 * (length t - at) ≡ τ → 6 * (length t - (at + 1)) + 5 < τ
 fall-open t at τ r s e q = let z = starts-room t at 1 (40 ∷ []) r s e refl in omega arith

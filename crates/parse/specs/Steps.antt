@@ -13,11 +13,11 @@ use Rattle.atlite.specs.Table.{countFields, countMethods}
 use Rattle.atlite.specs.Reader.{Reading, operator, item, eat, readWord, spaced, spacedWord, readItems, readFields, readMethods, readForm, readExpr}
 use Rattle.atlite.specs.Keywords.{operators}
 use Rattle.words.specs.Wide.{wide, pair, wideSrc, wideSrcs, wideFields, wideMethods}
-use Rattle.parse.specs.Heads.{readHeader}
-use Rattle.parse.specs.declared.Step.{Step}
-use Rattle.parse.specs.declared.Step.the-variants.{Done, Bad}
-use Rattle.parse.specs.declared.Listed.{Listed}
-use Rattle.parse.specs.declared.Listed.the-variants.{Items, NoItems}
+use Rattle.parse.specs.Headers.{readHeader}
+use Rattle.parse.specs.declared.scratch.Step.{Step}
+use Rattle.parse.specs.declared.scratch.Step.the-variants.{Done, Bad}
+use Rattle.parse.specs.declared.scratch.Listed.{Listed}
+use Rattle.parse.specs.declared.scratch.Listed.the-variants.{Items, NoItems}
 
 -- where reading and writing go on: no more was written than read, so that all fits
 pub record Place (t : List ℕ) (at o : ℕ) : Type 0 where
