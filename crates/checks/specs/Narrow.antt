@@ -1,22 +1,24 @@
 -- A wide word as the word of a table, one for one: what is written for any word, and that for a script of at most 64 words of its own
 -- it is the word of the table. By cases on the form; a payload's digits are got back by their bounds. Assumes nothing.
 use Prim.Native.Nat.{ℕ, zero, suc, _+_, _*_, _/_, _%_, _≤_, _<_}
-use mathlib.Core.Path.{_≡_, refl, ap, _∙_}
+use mathlib.Core.Path.{_≡_, refl, ap, _∙_, subst as transp}
 use mathlib.Core.Bool.{cond, true, false≢true}
 use mathlib.Core.List.{List, [], _∷_, _++_}
 use native.Mathlib.Omega.{arith}
 use borrow.Author.Tests.{ne-eqb}
 use lib.Dec.{eqb}
 use lib.ListN.{length}
-use Rattle.atlite.specs.Term.{Kind, plain, plus, percent, get, set, call, send}
+use Rattle.atlite.specs.Term.{Kind, plain, Op, written}
 use Rattle.atlite.specs.Facts.{and₂}
-use Rattle.atlite.specs.Valid.{isName}
+use Rattle.atlite.specs.Valid.{isName, shapely}
 use Rattle.reading.specs.Items.{call-few, send-few}
 use Rattle.atlite.specs.Table.{Grammatical, GrammaticalAll, GrammaticalFields, GrammaticalMethods, GrammaticalLines, writable}
 use Rattle.atlite.specs.Script.{SrcOp, ask, resolve, seq, Src, num, null, var, op, letIn, future, fn, when, literal, Srcs, nil, cons, SrcFields, noField, field, SrcMethods, noMethod, method, Line, expression, define, countSrcs}
 use Rattle.layout.specs.Pack.{node, flat, places}
 use Rattle.layout.specs.PackLaws.{Each}
-use Rattle.layout.specs.Terms.{kindNumber, tagged, asked, methodHeader}
+use Rattle.layout.specs.Kinds.{Operating, SrcRow, isBare, isField, isCall, isSend, src-row, op-kind}
+use Rattle.layout.specs.KindLaws.{Unasked, bare-unasked, field-unasked}
+use Rattle.layout.specs.Terms.{opKind, kindNumber, tagged, asked, methodHeader}
 use Rattle.layout.specs.Tables.{srcKind, srcPayload, encodeSrc, encodeSrcs, encodeFields, encodeSrcMethods, encodeLine}
 use Rattle.words.specs.Wide.{wide, pair, wideParams, wideMethod, widePayload, wideSrc, wideSrcs, wideFields, wideMethods, wideLine, wideLines}
 use Rattle.checks.specs.Names.{Name, named, variable, all-named}
@@ -155,16 +157,37 @@ two-words h h′ v v′ u u′ e p q = one-word h h′ (v ++ u) (v′ ++ u′) e
 small : (w x : ℕ) → w ≤ 64 → Name w x → x < 16777216
 small w x l h = omega (arith, h .below)
 
+-- the payload of an operator's word stands as it is, but for a message's
+narrow-same : (k p : ℕ) → Operating k → Unasked k → narrowBy k p ≡ tableWord k p
+unfolding narrowBy
+narrow-same k p h u =
+    rw (
+      ne-eqb k 12 (h .3),
+      ne-eqb k 13 (λ e. u (omega (arith, e)) (omega (arith, e))),
+      ne-eqb k 14 (λ e. u (omega (arith, e)) (omega (arith, e))),
+      ne-eqb k 64 (λ e. omega (arith, h .1, e)),
+      ne-eqb k 192 (λ e. omega (arith, h .1, e)),
+    )
+
+kept-narrow : (w : ℕ) → w ≤ 64 → (o : Op ℕ) → SrcRow o → (n : ℕ) → writable w (SrcOp.kept o) n ≡ true
+    → narrow (wide (srcKind (SrcOp.kept o)) (widePayload (SrcOp.kept o) n)) ≡ node (srcKind (SrcOp.kept o)) (srcPayload (SrcOp.kept o) n)
+unfolding widePayload narrowBy
+kept-narrow w l _ (isBare o m e f) n h =
+    let k = op-kind (written o) in
+    rw (e .0, e .1) (kept (opKind (written o)) 0 (omega (arith, k .1)) (omega arith) (narrow-same _ 0 k (bare-unasked _ o m e f)))
+kept-narrow w l _ (isField c k m e x f) n h =
+    let z = e .0 x .2 in
+    let j : Operating k = rw z at (op-kind (written (c x))) in
+    let g = transp (λ s. shapely w s n ≡ true) (e .0 x .1) h in
+    rw (e .0 x .0, e .0 x .1, z) (kept k x (omega (arith, j .1)) (small w x l (named w x (and₂ (isName w x) (eqb n m) g .0))) (narrow-same k x j (field-unasked c k m e f)))
+kept-narrow w l _ (isCall m) zero h = absurd (false≢true h)
+kept-narrow w l _ (isCall m) (suc n) h = let f = call-few w m (suc n) h in sent 13 m n (omega arith) (omega (arith, named w m (f .0) .below)) (omega (arith, f .2)) refl
+kept-narrow w l _ (isSend m) zero h = absurd (false≢true h)
+kept-narrow w l _ (isSend m) (suc n) h = let f = send-few w m (suc n) h in sent 14 m n (omega arith) (omega (arith, named w m (f .0) .below)) (omega (arith, f .2)) refl
+
 op-narrow : (w : ℕ) → w ≤ 64 → (o : SrcOp) (n : ℕ) → writable w o n ≡ true → narrow (wide (srcKind o) (widePayload o n)) ≡ node (srcKind o) (srcPayload o n)
 unfolding widePayload narrowBy
-op-narrow w l (SrcOp.kept plus) n h = kept 7 0 (omega arith) (omega arith) refl
-op-narrow w l (SrcOp.kept percent) n h = kept 8 0 (omega arith) (omega arith) refl
-op-narrow w l (SrcOp.kept (get f)) n h = kept 9 f (omega arith) (small w f l (named w f (and₂ (isName w f) (eqb n 1) h .0))) refl
-op-narrow w l (SrcOp.kept (set f)) n h = kept 10 f (omega arith) (small w f l (named w f (and₂ (isName w f) (eqb n 2) h .0))) refl
-op-narrow w l (SrcOp.kept (call m)) zero h = absurd (false≢true h)
-op-narrow w l (SrcOp.kept (call m)) (suc n) h = let f = call-few w m (suc n) h in sent 13 m n (omega arith) (omega (arith, named w m (f .0) .below)) (omega (arith, f .2)) refl
-op-narrow w l (SrcOp.kept (send m)) zero h = absurd (false≢true h)
-op-narrow w l (SrcOp.kept (send m)) (suc n) h = let f = send-few w m (suc n) h in sent 14 m n (omega arith) (omega (arith, named w m (f .0) .below)) (omega (arith, f .2)) refl
+op-narrow w l (SrcOp.kept o) n h = kept-narrow w l o (src-row o) n h
 op-narrow w l (ask m) zero h = absurd (false≢true h)
 op-narrow w l (ask m) (suc n) h = let f = send-few w m (suc n) h in sent 64 m n (omega arith) (omega (arith, named w m (f .0) .below)) (omega (arith, f .2)) refl
 op-narrow w l resolve n h = kept 66 0 (omega arith) (omega arith) refl

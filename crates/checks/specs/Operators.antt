@@ -1,19 +1,22 @@
 -- The kinds of operators, as the passes over a script's words meet them: they bind no name, list none, and are no literal; and how many
 -- operands an operator's word says that it has, and how it stands in a table. Assumes nothing.
 use Prim.Native.Nat.{ℕ, zero, suc, _+_, _/_, _%_, _≤_, _<_}
-use mathlib.Core.Path.{_≡_}
+use mathlib.Core.Path.{_≡_, sym, _∙_, subst as transp}
 use mathlib.Core.Bool.{true, false≢true}
 use mathlib.Core.Logic.{_≢_}
 use native.Mathlib.Omega.{arith}
-use borrow.Author.Tests.{eqb-true}
+use borrow.Author.Tests.{eqb-true, ne-eqb}
 use lib.Dec.{eqb}
 use Rattle.atlite.specs.Facts.{and₂}
-use Rattle.atlite.specs.Term.{plus, percent, get, set, call, send}
+use Rattle.atlite.specs.Term.{Op, written}
 use Rattle.atlite.specs.Script.{SrcOp, kept, ask, resolve, seq}
 use Rattle.atlite.specs.Table.{writable}
-use Rattle.atlite.specs.Valid.{isName}
+use Rattle.atlite.specs.Valid.{isName, shapely}
 use Rattle.reading.specs.Items.{call-few, send-few}
+use Rattle.layout.specs.Terms.{opKind}
 use Rattle.layout.specs.Tables.{srcKind}
+use Rattle.layout.specs.Kinds.{Operating, SrcRow, isBare, isField, isCall, isSend, src-row, op-kind, rowIn}
+use Rattle.layout.specs.KindLaws.{Unasked, bare-row, bare-unasked, field-row, field-unasked}
 use Rattle.words.specs.Wide.{pair, widePayload}
 use Rattle.checks.specs.Names.{named}
 use Rattle.checks.specs.Trees.{outerBy}
@@ -29,13 +32,21 @@ pub record Passed (k : ℕ) : Type 0 where
   pub noFn : k ≢ 65
   pub noWhen : k ≢ 67
 
+passed : (k : ℕ) → Operating k → Passed k
+passed k h = record {
+  above = omega (arith, h .0);
+  below = omega (arith, h .1);
+  noLet = h .2;
+  noFuture = h .3;
+  noObject = h .4;
+  noIsolate = h .5;
+  noActor = h .6;
+  noFn = λ e. omega (arith, h .1, e);
+  noWhen = λ e. omega (arith, h .1, e);
+}
+
 pub op-passed : (o : SrcOp) → Passed (srcKind o)
-op-passed (kept plus) = omega arith
-op-passed (kept percent) = omega arith
-op-passed (kept (get f)) = omega arith
-op-passed (kept (set f)) = omega arith
-op-passed (kept (call m)) = omega arith
-op-passed (kept (send m)) = omega arith
+op-passed (kept o) = passed (opKind (written o)) (op-kind (written o))
 op-passed (ask m) = omega arith
 op-passed resolve = omega arith
 op-passed seq = omega arith
@@ -47,16 +58,40 @@ sent w m n l h =
     let a : pair m n / 4096 ≡ n = omega arith in
     rw a (omega arith)
 
+-- of a kind in the table
+outer-operands : (k p : ℕ) → Operating k → Unasked k → rowIn k % 4 ≡ outerBy k p
+outer-operands k p h u =
+    rw (
+      ne-eqb k 11 (h .2),
+      ne-eqb k 12 (h .3),
+      ne-eqb k 13 (λ e. u (omega (arith, e)) (omega (arith, e))),
+      ne-eqb k 14 (λ e. u (omega (arith, e)) (omega (arith, e))),
+      ne-eqb k 15 (h .4),
+      ne-eqb k 16 (h .5),
+      ne-eqb k 17 (h .6),
+      ne-eqb k 64 (λ e. omega (arith, h .1, e)),
+      ne-eqb k 66 (λ e. omega (arith, h .1, e)),
+      ne-eqb k 67 (λ e. omega (arith, h .1, e)),
+      ne-eqb k 68 (λ e. omega (arith, h .1, e)),
+      ne-eqb k 128 (λ e. omega (arith, h .1, e)),
+    )
+
+kept-outer : (w : ℕ) → w ≤ 4000 → (o : Op ℕ) → SrcRow o → (n : ℕ) → writable w (kept o) n ≡ true → n ≡ outerBy (srcKind (kept o)) (widePayload (kept o) n)
+unfolding widePayload
+kept-outer w l _ (isBare o m e f) n h =
+    eqb-true n m (transp (λ s. shapely w s n ≡ true) (e .1) h) ∙ sym (bare-row _ o m e f .0) ∙ outer-operands _ _ (op-kind (written o)) (bare-unasked _ o m e f)
+kept-outer w l _ (isField c k m e x f) n h =
+    let z = e .0 x .2 in
+    let g = transp (λ s. shapely w s n ≡ true) (e .0 x .1) h in
+    eqb-true n m (and₂ (isName w x) (eqb n m) g .1) ∙ sym (field-row c k m e f .0) ∙ rw z (outer-operands k _ (rw z at (op-kind (written (c x)))) (field-unasked c k m e f))
+kept-outer w l _ (isCall m) zero h = absurd (false≢true h)
+kept-outer w l _ (isCall m) (suc n) h = sent w m n l (call-few w m (suc n) h)
+kept-outer w l _ (isSend m) zero h = absurd (false≢true h)
+kept-outer w l _ (isSend m) (suc n) h = sent w m n l (send-few w m (suc n) h)
+
 pub op-outer : (w : ℕ) → w ≤ 4000 → (o : SrcOp) (n : ℕ) → writable w o n ≡ true → n ≡ outerBy (srcKind o) (widePayload o n)
 unfolding widePayload
-op-outer w l (kept plus) n h = eqb-true n 2 h
-op-outer w l (kept percent) n h = eqb-true n 2 h
-op-outer w l (kept (get f)) n h = eqb-true n 1 (and₂ (isName w f) (eqb n 1) h .1)
-op-outer w l (kept (set f)) n h = eqb-true n 2 (and₂ (isName w f) (eqb n 2) h .1)
-op-outer w l (kept (call m)) zero h = absurd (false≢true h)
-op-outer w l (kept (call m)) (suc n) h = sent w m n l (call-few w m (suc n) h)
-op-outer w l (kept (send m)) zero h = absurd (false≢true h)
-op-outer w l (kept (send m)) (suc n) h = sent w m n l (send-few w m (suc n) h)
+op-outer w l (kept o) n h = kept-outer w l o (src-row o) n h
 op-outer w l (ask m) zero h = absurd (false≢true h)
 op-outer w l (ask m) (suc n) h = sent w m n l (send-few w m (suc n) h)
 op-outer w l resolve n h = eqb-true n 2 h

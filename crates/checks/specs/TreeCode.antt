@@ -9,6 +9,7 @@ use borrow.Author.Needs.{needs}
 use borrow.Author.Tests.{ne-eqb}
 use lib.ListN.{length, getD, length-append}
 use lib.Seq.{getD-at}
+use Rattle.layout.specs.Kinds.{rowIn}
 use Rattle.checks.specs.Trees.{Forest, empty, tree, words, count, outerBy, innerBy, outer, inner}
 
 pub outer-is : (h k r : ℕ) → h % 256 ≡ k → r ≡ outerBy k (h / 256) → r ≡ outer h
@@ -22,10 +23,10 @@ inner-is h k r e i = i ∙ ap (λ j. innerBy j (h / 256)) (sym e)
 abbrev Not : ℕ → ℕ → Type 0
 Not h k = h % 256 ≡ k → ⊥
 
-pub outer-none : (h : ℕ) → Not h 7 → Not h 8 → Not h 9 → Not h 10 → Not h 11 → Not h 13 → Not h 14 → Not h 15 → Not h 16 → Not h 17 → Not h 64 → Not h 66 → Not h 67 → Not h 68 → Not h 128 → 0 ≡ outer h
+pub outer-row : (h r : ℕ) → Not h 11 → Not h 12 → Not h 13 → Not h 14 → Not h 15 → Not h 16 → Not h 17 → Not h 64 → Not h 66 → Not h 67 → Not h 68 → Not h 128 → r ≡ rowIn (h % 256) % 4 → r ≡ outer h
 unfolding outer
-outer-none h a b c d e f g i j k l m n o p =
-    rw (ne-eqb (h % 256) 7 a, ne-eqb (h % 256) 8 b, ne-eqb (h % 256) 9 c, ne-eqb (h % 256) 10 d, ne-eqb (h % 256) 11 e, ne-eqb (h % 256) 13 f, ne-eqb (h % 256) 14 g, ne-eqb (h % 256) 15 i, ne-eqb (h % 256) 16 j, ne-eqb (h % 256) 17 k, ne-eqb (h % 256) 64 l, ne-eqb (h % 256) 66 m, ne-eqb (h % 256) 67 n, ne-eqb (h % 256) 68 o, ne-eqb (h % 256) 128 p)
+outer-row h r a b c d e f g i j k l m p =
+    p ∙ rw (ne-eqb (h % 256) 11 a, ne-eqb (h % 256) 12 b, ne-eqb (h % 256) 13 c, ne-eqb (h % 256) 14 d, ne-eqb (h % 256) 15 e, ne-eqb (h % 256) 16 f, ne-eqb (h % 256) 17 g, ne-eqb (h % 256) 64 i, ne-eqb (h % 256) 66 j, ne-eqb (h % 256) 67 k, ne-eqb (h % 256) 68 l, ne-eqb (h % 256) 128 m)
 
 pub inner-none : (h : ℕ) → Not h 11 → Not h 12 → Not h 15 → Not h 16 → Not h 17 → Not h 65 → Not h 67 → Not h 192 → 0 ≡ inner h
 unfolding inner
@@ -108,4 +109,4 @@ chain at m e r la lc lb true true B x y z i j k l = z refl refl
 chain at m e r la lc lb true false B x y z i j k l = omega (arith, y refl)
 chain at m e r la lc lb false C B x y z i j k l = omega arith
 
-pub ruleset laws = (needs, outer-is, inner-is, outer-none, inner-none)
+pub ruleset laws = (needs, outer-is, inner-is, outer-row, inner-none)

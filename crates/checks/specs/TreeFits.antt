@@ -6,6 +6,7 @@ use borrow.Author.Tests.{ne-eqb}
 use Rattle.atlite.specs.Term.{Kind}
 use Rattle.atlite.specs.Table.{countFields, countMethods, Grammatical, GrammaticalAll, GrammaticalFields, GrammaticalMethods}
 use Rattle.atlite.specs.Script.{SrcOp, Src, num, null, var, op, letIn, future, fn, when, literal, Srcs, nil, cons, SrcFields, noField, field, SrcMethods, noMethod, method, countSrcs}
+use Rattle.layout.specs.Kinds.{Kinds}
 use Rattle.layout.specs.Terms.{kindNumber}
 use Rattle.layout.specs.Tables.{srcKind}
 use Rattle.words.specs.Wide.{wide, widePayload, wideMethod}
@@ -67,7 +68,7 @@ parts k f m hf hm a c r ca cm fa fc fr =
     go Kind.actor x y = fits 17 (f + 8 * m) a c r f m (omega arith) ca cm x y fa fc fr
 
 mutual
-  unfolding put Grammatical wideMethod
+  unfolding put Grammatical wideMethod Kinds
 
   pub fits-put : (e : Src) (r : Forest) (w : ℕ) → w ≤ 4000 → Grammatical w e → Fits r → Fits (put e r)
   fits-put null r w l g h = fits 1 0 empty empty r 0 0 (omega arith) count-none count-none refl refl none none h

@@ -7,6 +7,7 @@ use mathlib.Core.List.{List, [], _∷_, _++_, append-assoc, append-nil}
 use lib.Dec.{eqb}
 use Rattle.atlite.specs.Table.{countFields, countMethods}
 use Rattle.atlite.specs.Script.{Src, num, null, var, op, letIn, future, fn, when, literal, Srcs, nil, cons, SrcFields, noField, field, SrcMethods, noMethod, method, countSrcs}
+use Rattle.layout.specs.Kinds.{rowIn}
 use Rattle.layout.specs.Terms.{kindNumber}
 use Rattle.layout.specs.Tables.{srcKind}
 use Rattle.words.specs.Wide.{wide, pair, widePayload, wideMethod, wideSrc, wideSrcs, wideFields, wideMethods}
@@ -23,14 +24,11 @@ unfoldable pub count : Forest → ℕ
 count empty = 0
 count (tree h a c b) = suc (count b)
 
--- ---- how many operands a word has, by its kind and payload
+-- ---- how many operands a word has, by its kind and payload; an operator's are in the table of kinds
 abbrev pub outerBy : ℕ → ℕ → ℕ
 outerBy k p =
-    cond (eqb k 7) 2
-    (cond (eqb k 8) 2
-    (cond (eqb k 9) 1
-    (cond (eqb k 10) 2
-    (cond (eqb k 11) 1
+    cond (eqb k 11) 1
+    (cond (eqb k 12) 0
     (cond (eqb k 13) (1 + p / 4096 % 4)
     (cond (eqb k 14) (1 + p / 4096 % 4)
     (cond (eqb k 15) (p % 8)
@@ -41,7 +39,7 @@ outerBy k p =
     (cond (eqb k 67) 1
     (cond (eqb k 68) 2
     (cond (eqb k 128) 1
-    0))))))))))))))
+    (rowIn k % 4))))))))))))
 
 abbrev pub innerBy : ℕ → ℕ → ℕ
 innerBy k p =

@@ -3,6 +3,7 @@ ghost use mathlib.Core.Path.{_≡_};
 ghost use Prim.Native.Nat.{_≤_};
 ghost use Rattle.checks.specs.Lines.{Start};
 ghost use Rattle.checks.specs.Trees.{outer as outerOf, inner as innerOf};
+use layout::kinds;
 
 // Those in the word's own scope: of a literal the fields, of a message the receiver and the arguments.
 pub fn outer(h: u64) -> usize
@@ -11,11 +12,8 @@ pub fn outer(h: u64) -> usize
     let k = h % 256;
     let p = h / 256;
     match k {
-        7 => 2,
-        8 => 2,
-        9 => 1,
-        10 => 2,
         11 => 1,
+        12 => 0,
         13 => (1 + p / 4096 % 4) as usize,
         14 => (1 + p / 4096 % 4) as usize,
         15 => (p % 8) as usize,
@@ -26,7 +24,7 @@ pub fn outer(h: u64) -> usize
         67 => 1,
         68 => 2,
         128 => 1,
-        _ => 0,
+        _ => kinds::operands(k as u32) as usize,
     }
 }
 

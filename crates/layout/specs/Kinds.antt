@@ -20,11 +20,13 @@ use Rattle.layout.specs.Tables.{srcKind}
 -- ---- rows
 -- an operator with n operands and no name
 abbrev pub Bare : Op ℕ → ℕ → Type 0
-Bare o n = (shape o ≡ exactly n) × (shape (written o) ≡ exactly n) × (n < 4)
+Bare o n = (shape o ≡ exactly n) × (shape (written o) ≡ exactly n) × (0 < n) × (n < 4)
 
--- operators of kind k, one for each field, with n operands
+-- operators of kind k, one for each field, with n operands, all of them demanded
 abbrev pub Fields : (ℕ → Op ℕ) → ℕ → ℕ → Type 0
-Fields c k n = ((f : ℕ) → (shape (c f) ≡ Shape.onField f n) × (shape (written (c f)) ≡ Shape.onField f n) × (opKind (written (c f)) ≡ k)) × (n < 4)
+Fields c k n =
+    ((f : ℕ) → (shape (c f) ≡ Shape.onField f n) × (shape (written (c f)) ≡ Shape.onField f n) × (opKind (written (c f)) ≡ k) × ((m : ℕ) → demanded (written (c f)) m ≡ m))
+    × (0 < n) × (n < 4)
 
 pub data Form : Type 0 where
   nothing : Form
@@ -49,10 +51,11 @@ formKind sends = 14
 formKind (literal k) = kindNumber k
 
 unfoldable pub forms : List Form
+unfolding demanded
 forms =
     nullValue ∷ number ∷ reference ∷ variable
-    ∷ bare plus 2 (refl, refl, omega arith) ∷ bare percent 2 (refl, refl, omega arith)
-    ∷ onField get 9 1 ((λ f. (refl, refl, refl)), omega arith) ∷ onField set 10 2 ((λ f. (refl, refl, refl)), omega arith)
+    ∷ bare plus 2 (refl, refl, omega arith, omega arith) ∷ bare percent 2 (refl, refl, omega arith, omega arith)
+    ∷ onField get 9 1 ((λ f. (refl, refl, refl, λ m. refl)), omega arith, omega arith) ∷ onField set 10 2 ((λ f. (refl, refl, refl, λ m. refl)), omega arith, omega arith)
     ∷ letIn ∷ future ∷ calls ∷ sends
     ∷ literal Kind.object ∷ literal Kind.isolate ∷ literal Kind.actor ∷ []
 
@@ -86,8 +89,8 @@ demandOf nullValue n = 0
 demandOf number n = 0
 demandOf reference n = 0
 demandOf variable n = 0
-demandOf (bare o k e) n = demanded o n
-demandOf (onField c k m e) n = demanded (c this) n
+demandOf (bare o k e) n = demanded (written o) n
+demandOf (onField c k m e) n = n
 demandOf letIn n = 1
 demandOf future n = 0
 demandOf calls n = n
@@ -109,8 +112,8 @@ rowOf nullValue = 0
 rowOf number = 0
 rowOf reference = 0
 rowOf variable = 0
-rowOf (bare o n e) = n + 4 * (demanded o n + 4 * 1)
-rowOf (onField c k n e) = n + 4 * (demanded (c this) n + 4 * 2)
+rowOf (bare o n e) = n + 4 * (demanded (written o) n + 4 * 1)
+rowOf (onField c k n e) = n + 4 * (n + 4 * 2)
 rowOf letIn = 2 + 4 * 1
 rowOf future = 1
 rowOf calls = 0
@@ -170,12 +173,16 @@ by-kind P z h k = go forms
     go (r ∷ rs) = found r rs (eqb (formKind r) k) refl (go rs)
 
 -- ---- operators
--- the kinds that operators may have: below 32, and none of those that bind names or have parts
+-- the last kind of a term's words
+abbrev pub lastKind : ℕ
+lastKind = 17
+
+-- the kinds that operators may have: none of those that bind names or have parts
 unfoldable pub operating : ℕ → Bool
-operating k = leb 7 k && leb k 10 || leb 13 k && leb k 14 || leb 18 k && leb k 31
+operating k = leb 7 k && leb k 10 || leb 13 k && leb k 14 || leb 18 k && leb k lastKind
 
 abbrev pub Operating : ℕ → Type 0
-Operating k = (7 ≤ k) × (k < 32) × (k ≡ 11 → ⊥) × (k ≡ 12 → ⊥) × (k ≡ 15 → ⊥) × (k ≡ 16 → ⊥) × (k ≡ 17 → ⊥)
+Operating k = (7 ≤ k) × (k ≤ lastKind) × (k ≡ 11 → ⊥) × (k ≡ 12 → ⊥) × (k ≡ 15 → ⊥) × (k ≡ 16 → ⊥) × (k ≡ 17 → ⊥)
 
 pub operates : {N : Type 0} (o : Op N) → operating (opKind o) ≡ true
 unfolding operating
@@ -190,11 +197,11 @@ operating-range : (k : ℕ) → operating k ≡ true → Operating k
 unfolding operating
 operating-range k h = go (leb 7 k && leb k 10) refl h
   where
-    later : (c : Bool) → (leb 13 k && leb k 14) ≡ c → (c || leb 18 k && leb k 31) ≡ true → Operating k
+    later : (c : Bool) → (leb 13 k && leb k 14) ≡ c → (c || leb 18 k && leb k lastKind) ≡ true → Operating k
     later true e h = let (i, j) = and₂ (leb 13 k) (leb k 14) e in let i = leb-true 13 k i in let j = leb-true k 14 j in (omega arith, omega arith, λ z. omega arith, λ z. omega arith, λ z. omega arith, λ z. omega arith, λ z. omega arith)
-    later false e h = let (i, j) = and₂ (leb 18 k) (leb k 31) h in let i = leb-true 18 k i in let j = leb-true k 31 j in (omega arith, omega arith, λ z. omega arith, λ z. omega arith, λ z. omega arith, λ z. omega arith, λ z. omega arith)
+    later false e h = let (i, j) = and₂ (leb 18 k) (leb k lastKind) h in let i = leb-true 18 k i in let j = leb-true k lastKind j in (omega arith, omega arith, λ z. omega arith, λ z. omega arith, λ z. omega arith, λ z. omega arith, λ z. omega arith)
 
-    go : (c : Bool) → (leb 7 k && leb k 10) ≡ c → (c || leb 13 k && leb k 14 || leb 18 k && leb k 31) ≡ true → Operating k
+    go : (c : Bool) → (leb 7 k && leb k 10) ≡ c → (c || leb 13 k && leb k 14 || leb 18 k && leb k lastKind) ≡ true → Operating k
     go true e h = let (i, j) = and₂ (leb 7 k) (leb k 10) e in let i = leb-true 7 k i in let j = leb-true k 10 j in (omega arith, omega arith, λ z. omega arith, λ z. omega arith, λ z. omega arith, λ z. omega arith, λ z. omega arith)
     go false e h = later (leb 13 k && leb k 14) refl h
 
@@ -239,12 +246,12 @@ kind-small Kind.object = omega arith
 kind-small Kind.isolate = omega arith
 kind-small Kind.actor = omega arith
 
--- nothing stands past the operators' kinds
-pub form-none : (k : ℕ) → 32 ≤ k → formIn k ≡ nothing
+-- nothing stands past the last kind
+pub form-none : (k : ℕ) → lastKind < k → formIn k ≡ nothing
 unfolding formKind kindNumber
-form-none k l = by-kind (λ k r. 32 ≤ k → r ≡ nothing) (λ k l. refl) none k l
+form-none k l = by-kind (λ k r. lastKind < k → r ≡ nothing) (λ k l. refl) none k l
   where
-    none : (r : Form) → 32 ≤ formKind r → r ≡ nothing
+    none : (r : Form) → lastKind < formKind r → r ≡ nothing
     none nothing l = refl
     none nullValue l = absurd (omega arith)
     none number l = absurd (omega arith)

@@ -116,7 +116,7 @@ head-kind x k e = ap (λ i. headIn i (x % 16777216)) e
 
 pub head-none : (x : ℕ) → 32 ≤ x / 16777216 → headAt x ≡ noHead
 unfolding headAt headIn headOf
-head-none x h = ap (λ r. headOf r (x % 16777216)) (form-none (x / 16777216) h)
+head-none x h = ap (λ r. headOf r (x % 16777216)) (form-none (x / 16777216) (omega arith))
 
 -- ---- and every term's first word has its head
 pub head-value : (v : Value) → ValueFits v → headAt (encodeValue v) ≡ leaf (val v)

@@ -7,7 +7,8 @@ use mathlib.Core.Option.{Option, some}
 use native.Mathlib.Omega.{arith}
 use lib.ListN.{length, getD, List·getD-eq-default}
 use Rattle.atlite.specs.Term.{Term, Terms, nil, Inits, noField, Methods, noMethod}
-use Rattle.layout.specs.Parse.{Got, none, got, onGot, pair, behind, heads, headIn, headAt, fieldAt, methodAt, termsBy, initsBy, methodsBy, formed, parseTerms, parseInits, parseMethods}
+use Rattle.layout.specs.Kinds.{Kinds}
+use Rattle.layout.specs.Parse.{Got, none, got, onGot, pair, behind, headOf, headIn, headAt, fieldAt, methodAt, termsBy, initsBy, methodsBy, formed, parseTerms, parseInits, parseMethods}
 use Rattle.layout.specs.ParseLaws.{parse, parse-step}
 use Rattle.wellformed.specs.Words.{within}
 use Rattle.wellformed.specs.Ends.{endOf}
@@ -94,7 +95,7 @@ module _ (w : List ℕ) (at : ℕ) (l : length w ≤ at) where
   past = List·getD-eq-default w 0 l
 
   pub parse-past : parse w at ≡ none
-  unfolding headAt headIn heads formed
+  unfolding headAt Kinds headIn headOf formed
   parse-past = parse-step w at ∙ rw past
 
   pub fields-past : (n : ℕ) → parseInits (length w) w (suc n) at ≡ none

@@ -15,6 +15,7 @@ use Rattle.atlite.specs.ValidTest.{held, wellFormed, wellFormedAll, wellFormedM
 use Rattle.layout.specs.Pack.{names}
 use Rattle.layout.specs.PackLaws.{Each}
 use Rattle.layout.specs.Terms.{kindNumber}
+use Rattle.layout.specs.Kinds.{rowIn}
 use Rattle.layout.specs.Parse.{Got, none, got, literalHead, headIn, headAt, fieldAt, methodAt, formed, parseTerms, parseInits, parseMethods}
 use Rattle.layout.specs.ParseLaws.{parse}
 use Rattle.wellformed.specs.Words.{within, holds}
@@ -123,6 +124,10 @@ Leaf c p F g h o = (xs : List ℕ) → Scope F g xs → (w : List ℕ) (at : ℕ
 unfoldable pub Closed : ℕ → ℕ → Type 0
 Closed c h = (h / 16777216 ≡ 11 → ⊥) → (h / 16777216 ≡ 12 → ⊥) → (h / 16777216 ≡ 15 → ⊥) → (h / 16777216 ≡ 16 → ⊥) → (h / 16777216 ≡ 17 → ⊥)
     → (p : Value → Bool) (xs w : List ℕ) (at : ℕ) → 4096 ≡ wordEnd c p xs w h at
+
+-- the kinds that are no operators of the table
+unfoldable pub Unlisted : ℕ → Type 0
+Unlisted k = (rowIn k / 16 ≡ 1 → ⊥) × (rowIn k / 16 ≡ 2 → ⊥)
 
 -- Behind the word h of a term stand r terms in the same scope; 0 says that h is closed.
 pub record Operands (c h r : ℕ) : Type 0 where

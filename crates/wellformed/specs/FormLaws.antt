@@ -6,21 +6,23 @@ use mathlib.Core.List.{List, _∷_}
 use mathlib.Core.Option.{Option, some}
 use native.Mathlib.Omega.{arith}
 use borrow.Author.Needs.{needs}
-use borrow.Author.Tests.{lt-ltb, lt-leb, ltb-false, ne-eqb}
+use borrow.Author.Tests.{lt-ltb, lt-leb, ltb-false, eq-eqb, ne-eqb}
 use lib.Dec.{eqb, ltb}
-use lib.ListN.{length, List·getD-eq-default}
+use lib.ListN.{length}
 use Rattle.atlite.specs.Facts.{and₂}
-use Rattle.atlite.specs.Term.{Value, Name, plain, twoWay, resolve, register, Kind, Op, plus, percent, get, set, call, send, var, letIn, future}
+use Rattle.atlite.specs.Term.{Value, Name, plain, twoWay, resolve, register, Kind, Op, call, send, written, var, letIn, future}
 use Rattle.atlite.specs.Valid.{isName, isVariable, sendable, callable, operable}
 use Rattle.atlite.specs.ValidTest.{wellFormed}
 use Rattle.layout.specs.PackLaws.{pack-low}
 use Rattle.layout.specs.Terms.{kindNumber}
-use Rattle.layout.specs.Parse.{valueIn, valueAt, nameOf, noHead, unary, binary, many, only, valueHead, askHead, askIn, heads, headIn, headAt, formed}
+use Rattle.layout.specs.Kinds.{Kinds, Form, nothing, nullValue, number, reference, variable, bare, onField, calls, sends, formKind, rowOf, rowIn, by-kind as by-form}
+use Rattle.layout.specs.KindLaws.{demanded-few, bare-row, field-row, bare-found, field-found}
+use Rattle.layout.specs.Parse.{valueIn, valueAt, nameOf, noHead, unary, binary, many, only, valueHead, askHead, askIn, headOf, headIn, headAt, formed}
 use Rattle.layout.specs.ParseLaws.{parse}
 use Rattle.checks.specs.Bound.{Swapped, Kept}
 use Rattle.wellformed.specs.Words.{within, sendIn, callIn}
 use Rattle.wellformed.specs.WordLaws.{name-past}
-use Rattle.wellformed.specs.Ends.{endOf, Scope, Sees, bound, Bound, Arguments, two, termsEnd, Leaf, Closed, Operands, Counted, TermEnds, FormEnds, LiteralEnds}
+use Rattle.wellformed.specs.Ends.{endOf, Scope, Sees, bound, Bound, Arguments, two, termsEnd, Leaf, Closed, Unlisted, Operands, Counted, TermEnds, FormEnds, LiteralEnds}
 use Rattle.wellformed.specs.ScopeLaws.{scope-bind, two-bound}
 use Rattle.wellformed.specs.NameLaws.{variable-below}
 use Rattle.wellformed.specs.EndLaws.{ends-on, ends-pair, term-nowhere}
@@ -44,7 +46,7 @@ module _ (c : ℕ) where
 
 -- ---- leaves
 value-head : (x : ℕ) → x / 16777216 < 6 → headAt x ≡ valueHead (valueAt x)
-unfolding headAt headIn heads valueAt valueIn
+unfolding headAt Kinds headIn headOf valueAt valueIn
 value-head x h = go (x / 16777216) h
   where
     go : (k : ℕ) → k < 6 → headIn k (x % 16777216) ≡ valueHead (valueIn k (x % 16777216))
@@ -58,7 +60,7 @@ value-head x h = go (x / 16777216) h
 
 module _ (c : ℕ) (p : Value → Bool) (F : List ℕ) (g h : ℕ) (o : Bool) where
   pub leaf-variable : h / 16777216 ≡ 6 → Sees F g (h % 16777216) o → Leaf c p F g h o
-  unfolding Leaf Sees headIn heads wellFormed
+  unfolding Leaf Sees Kinds headIn headOf wellFormed
   leaf-variable k e xs s w at = by-kind c p xs w h at 6 _ k (leaf-ends c p xs w at o (ltb (h % 16777216) 127) (var (h % 16777216)) (e xs s))
 
   pub leaf-value : h < 117440512 → (h / 16777216 ≡ 6 → ⊥) → o ≡ within p (valueAt h) → Leaf c p F g h o
@@ -95,20 +97,20 @@ module _ (c h r : ℕ) where
   abbrev q : ℕ
   q = h % 16777216
 
-  -- two operands and no payload
-  bare-two : (k : ℕ) (f : Op Name) → h / 16777216 ≡ k → Counted (eqb q 0) 2 r → headIn k q ≡ only (eqb q 0) (many f 2) → operable c f 2 ≡ true → Operands c h r
-  bare-two k f e t i v =
-      operands-by c h r 2 (eqb q 0) t k e (omega arith) (omega arith)
-      (λ z p xs w at. rw i (only-none c p xs w at (eqb q 0) (many f 2) (λ u. absurd (true≢false (sym u ∙ z)))))
-      (λ z p xs w at. rw i (only-some c p xs w at (eqb q 0) _ (many f 2) z (many-some c p xs w at f 2 v)))
+  abbrev k : ℕ
+  k = h / 16777216
 
-  pub operands-plus : h / 16777216 ≡ 7 → Counted (eqb q 0) 2 r → Operands c h r
-  unfolding headIn heads
-  operands-plus e t = bare-two 7 plus e t refl refl
-
-  pub operands-percent : h / 16777216 ≡ 8 → Counted (eqb q 0) 2 r → Operands c h r
-  unfolding headIn heads
-  operands-percent e t = bare-two 8 percent e t refl refl
+  -- operands alone, and no payload
+  pub operands-bare : (i n : ℕ) → i ≡ rowIn k / 16 → i ≡ 1 → n ≡ rowIn k % 4 → Counted (eqb q 0) n r → Operands c h r
+  unfolding headIn headOf
+  operands-bare i n a b v t =
+      let (f, m, e, d) = bare-found k (sym a ∙ b) in
+      let j : n ≡ m = v ∙ bare-row k f m e d .0 in
+      let g : headIn k q ≡ only (eqb q 0) (many (written f) m) = rw d in
+      let y : operable c (written f) m ≡ true = rw (e .1) (eq-eqb m m refl) in
+      operands-by c h r m (eqb q 0) (rw j at t) k refl (e .2) (omega (arith, e .3))
+      (λ z p xs w at. rw g (only-none c p xs w at (eqb q 0) (many (written f) m) (λ u. absurd (true≢false (sym u ∙ z)))))
+      (λ z p xs w at. rw g (only-some c p xs w at (eqb q 0) _ (many (written f) m) z (many-some c p xs w at (written f) m y)))
 
   module _ (m : c ≤ 64) (o : Bool) (e : o ≡ isName c q) where
     -- a name is one of those that have a head
@@ -119,19 +121,16 @@ module _ (c h r : ℕ) where
         go true i = refl
         go false i = absurd (true≢false (sym z ∙ e ∙ name-past c m q (ltb-false q 127 i)))
 
-    field-by : (f : Op Name) (k n : ℕ) → h / 16777216 ≡ k → 0 < n → n ≤ 8388608 → Counted o n r → headIn k q ≡ only (ltb q 127) (many f n) → operable c f n ≡ isName c q && true → Operands c h r
-    field-by f k n j l m t i v =
-        operands-by c h r n o t k j l m
-        (λ z p xs w at. rw i (only-none c p xs w at (ltb q 127) (many f n) (λ u. many-none c p xs w at f n (v ∙ rw (sym e ∙ z)))))
-        (λ z p xs w at. rw i (only-some c p xs w at (ltb q 127) _ (many f n) (named z) (many-some c p xs w at f n (v ∙ rw (sym e ∙ z)))))
-
-    pub operands-get : h / 16777216 ≡ 9 → Counted o 1 r → Operands c h r
-    unfolding headIn heads
-    operands-get k t = field-by (get q) 9 1 k (omega arith) (omega arith) t refl refl
-
-    pub operands-set : h / 16777216 ≡ 10 → Counted o 2 r → Operands c h r
-    unfolding headIn heads
-    operands-set k t = field-by (set q) 10 2 k (omega arith) (omega arith) t refl refl
+    pub operands-field : (i n : ℕ) → i ≡ rowIn k / 16 → i ≡ 2 → n ≡ rowIn k % 4 → Counted o n r → Operands c h r
+    unfolding headIn headOf
+    operands-field i n a b v t =
+        let (f, m, d, u) = field-found k (sym a ∙ b) in
+        let j : n ≡ m = v ∙ field-row f k m d u .0 in
+        let g : headIn k q ≡ only (ltb q 127) (many (written (f q)) m) = rw u in
+        let y : operable c (written (f q)) m ≡ isName c q && true = rw (d .0 q .1, eq-eqb m m refl) in
+        operands-by c h r m o (rw j at t) k refl (d .1) (omega (arith, d .2))
+        (λ z p xs w at. rw g (only-none c p xs w at (ltb q 127) (many (written (f q)) m) (λ u. many-none c p xs w at (written (f q)) m (y ∙ rw (sym e ∙ z)))))
+        (λ z p xs w at. rw g (only-some c p xs w at (ltb q 127) _ (many (written (f q)) m) (named z) (many-some c p xs w at (written (f q)) m (y ∙ rw (sym e ∙ z)))))
 
   -- calls and sends, by what is asked of a name with so many arguments
   module _ (f : Name → Op Name) (a : Name → ℕ → Bool) (few : (m : Name) (n : ℕ) → 8 ≤ n → a m n ≡ false) (well : (m : Name) (n : ℕ) → operable c (f m) (suc n) ≡ a m n) where
@@ -164,30 +163,49 @@ module _ (c h r : ℕ) where
 
   module _ (o : Bool) (n : ℕ) (a : Arguments q n) (t : Counted o n r) where
     pub operands-call : h / 16777216 ≡ 13 → o ≡ callIn c q → Operands c h r
-    unfolding headIn heads callIn
+    unfolding Kinds headIn headOf callIn
     operands-call k e = operands-asked call (callable c) (few-called c) (λ m n. refl) o 13 n k refl e a t
 
     pub operands-send : h / 16777216 ≡ 14 → o ≡ sendIn c q → Operands c h r
-    unfolding headIn heads sendIn
+    unfolding Kinds headIn headOf sendIn
     operands-send k e = operands-asked send (sendable c) (few-sent c) (λ m n. refl) o 14 n k refl e a t
 
 -- a word of no other kind
-past : (x k : ℕ) → k ≤ x / 16777216 → (x / 16777216 ≡ k → ⊥) → suc k ≤ x / 16777216
-past x k l e = omega arith
+abbrev Other : ℕ → Form → Type 0
+Other x r = 7 ≤ x → (rowOf r / 16 ≡ 1 → ⊥) × (rowOf r / 16 ≡ 2 → ⊥) → (x ≡ 11 → ⊥) → (x ≡ 12 → ⊥) → (x ≡ 13 → ⊥) → (x ≡ 14 → ⊥) → (x ≡ 15 → ⊥) → (x ≡ 16 → ⊥) → (x ≡ 17 → ⊥) → (p : ℕ) → headOf r p ≡ noHead
+
+other : (r : Form) → Other (formKind r) r
+unfolding Kinds headOf
+other nothing l u k11 k12 k13 k14 k15 k16 k17 p = refl
+other nullValue l u k11 k12 k13 k14 k15 k16 k17 p = absurd (omega arith)
+other number l u k11 k12 k13 k14 k15 k16 k17 p = absurd (omega arith)
+other reference l u k11 k12 k13 k14 k15 k16 k17 p = absurd (omega arith)
+other variable l u k11 k12 k13 k14 k15 k16 k17 p = absurd (omega arith)
+other (bare o n e) l u k11 k12 k13 k14 k15 k16 k17 p = absurd (u .0 (omega (arith, e .3, demanded-few (written o) n)))
+other (onField c k n e) l u k11 k12 k13 k14 k15 k16 k17 p = absurd (u .1 (omega (arith, e .2)))
+other Form.letIn l u k11 k12 k13 k14 k15 k16 k17 p = absurd (k11 refl)
+other Form.future l u k11 k12 k13 k14 k15 k16 k17 p = absurd (k12 refl)
+other calls l u k11 k12 k13 k14 k15 k16 k17 p = absurd (k13 refl)
+other sends l u k11 k12 k13 k14 k15 k16 k17 p = absurd (k14 refl)
+other (Form.literal Kind.object) l u k11 k12 k13 k14 k15 k16 k17 p = absurd (k15 refl)
+other (Form.literal Kind.isolate) l u k11 k12 k13 k14 k15 k16 k17 p = absurd (k16 refl)
+other (Form.literal Kind.actor) l u k11 k12 k13 k14 k15 k16 k17 p = absurd (k17 refl)
 
 module _ (c h : ℕ) where
-  pub operands-none : 117440512 ≤ h → (h / 16777216 ≡ 7 → ⊥) → (h / 16777216 ≡ 8 → ⊥) → (h / 16777216 ≡ 9 → ⊥) → (h / 16777216 ≡ 10 → ⊥) → (h / 16777216 ≡ 13 → ⊥) → (h / 16777216 ≡ 14 → ⊥) → Operands c h 0
-  unfolding Closed headAt headIn heads formed endOf
-  operands-none l k7 k8 k9 k10 k13 k14 = record {
+  pub operands-none : 117440512 ≤ h → Unlisted (h / 16777216) → (h / 16777216 ≡ 13 → ⊥) → (h / 16777216 ≡ 14 → ⊥) → Operands c h 0
+  unfolding Closed Unlisted headAt headIn headOf formed endOf rowIn
+  operands-none l u k13 k14 = record {
     few = omega arith;
-    none = λ u k11 k12 k15 k16 k17 p xs w at.
-        let m : 7 ≤ h / 16777216 = omega arith in
-        let n = past h 17 (past h 16 (past h 15 (past h 14 (past h 13 (past h 12 (past h 11 (past h 10 (past h 9 (past h 8 (past h 7 m k7) k8) k9) k10) k11) k12) k13) k14) k15) k16) k17 in
-        rw (List·getD-eq-default (heads (h % 16777216)) noHead n);
-    some = λ u. absurd (omega arith);
+    none = λ z k11 k12 k15 k16 k17 p xs w at.
+        rw (by-form Other (λ x l u a b d e f g j p. refl) other (h / 16777216) (omega arith) u k11 k12 k13 k14 k15 k16 k17 (h % 16777216));
+    some = λ z. absurd (omega arith);
   }
 
-pub ruleset operand-laws = (needs, operands-plus, operands-percent, operands-get, operands-set, operands-call, operands-send, operands-none)
+  pub unlisted : (r : ℕ) → r ≡ rowIn (h / 16777216) / 16 → (r ≡ 1 → ⊥) → (r ≡ 2 → ⊥) → Unlisted (h / 16777216)
+  unfolding Unlisted
+  unlisted r e a b = (λ z. a (e ∙ z), λ z. b (e ∙ z))
+
+pub ruleset operand-laws = (needs, operands-bare, operands-field, operands-call, operands-send, operands-none, unlisted)
 
 -- ---- forms
 module _ (c : ℕ) (p : Value → Bool) (F : List ℕ) (g : ℕ) (w : List ℕ) (h at r : ℕ) where
@@ -199,15 +217,15 @@ module _ (c : ℕ) (p : Value → Bool) (F : List ℕ) (g : ℕ) (w : List ℕ) 
 
   module _ (j : LiteralEnds c p F g w h at r) where
     pub form-object : h / 16777216 ≡ 15 → FormEnds c p F g w (h / 16777216) (h % 16777216) at r
-    unfolding FormEnds LiteralEnds kindNumber headAt headIn heads
+    unfolding FormEnds LiteralEnds kindNumber headAt Kinds headIn headOf
     form-object k xs s = by-kind c p xs w h at 15 r k (j Kind.object k xs s)
 
     pub form-isolate : h / 16777216 ≡ 16 → FormEnds c p F g w (h / 16777216) (h % 16777216) at r
-    unfolding FormEnds LiteralEnds kindNumber headAt headIn heads
+    unfolding FormEnds LiteralEnds kindNumber headAt Kinds headIn headOf
     form-isolate k xs s = by-kind c p xs w h at 16 r k (j Kind.isolate k xs s)
 
     pub form-actor : h / 16777216 ≡ 17 → FormEnds c p F g w (h / 16777216) (h % 16777216) at r
-    unfolding FormEnds LiteralEnds kindNumber headAt headIn heads
+    unfolding FormEnds LiteralEnds kindNumber headAt Kinds headIn headOf
     form-actor k xs s = by-kind c p xs w h at 17 r k (j Kind.actor k xs s)
 
   pub form-none : Closed c h → (h / 16777216 ≡ 11 → ⊥) → (h / 16777216 ≡ 12 → ⊥) → (h / 16777216 ≡ 15 → ⊥) → (h / 16777216 ≡ 16 → ⊥) → (h / 16777216 ≡ 17 → ⊥)
@@ -232,12 +250,12 @@ let-place c x o e t m = omega (arith, variable-below c x m (sym e ∙ t))
 
 module _ (c : ℕ) (p : Value → Bool) (F : List ℕ) (g : ℕ) (w : List ℕ) (at x : ℕ) (o : Bool) where
   pub let-not : o ≡ isVariable c x → o ≡ false → FormEnds c p F g w 11 x at 4096
-  unfolding FormEnds headIn heads wellFormed formed
+  unfolding FormEnds Kinds headIn headOf wellFormed formed
   let-not e t xs s =
       only-none c p xs w at (ltb x 127) (binary (λ d g. letIn x d g)) (λ u. binary-none c p xs w at (λ d g. letIn x d g) (λ d g. rw (sym e ∙ t)))
 
   pub let-well : (a u r : ℕ) (G H : List ℕ) → length w ≤ 1536 → c ≤ 64 → o ≡ isVariable c x → o ≡ true → TermEnds c p F g w at a → Kept F G → Swapped G x g H u → TermEnds c p H g w a r → FormEnds c p F g w 11 x at r
-  unfolding FormEnds TermEnds Kept headIn heads wellFormed formed
+  unfolding FormEnds TermEnds Kept Kinds headIn headOf wellFormed formed
   let-well a u r G H l m e t i k b j xs s =
       let v : isVariable c x ≡ true = sym e ∙ t in
       let y = variable-below c x m v in
@@ -247,13 +265,13 @@ module _ (c : ℕ) (p : Value → Bool) (F : List ℕ) (g : ℕ) (w : List ℕ) 
       (λ d n g m u w. rw v))
 
   pub future-not : o ≡ two c (x % 128) (x / 128) → o ≡ false → FormEnds c p F g w 12 x at 4096
-  unfolding FormEnds headIn heads wellFormed formed two
+  unfolding FormEnds Kinds headIn headOf wellFormed formed two
   future-not e t xs s =
       only-none c p xs w at (ltb (x % 128) 127) (only (ltb (x / 128) 127) (unary (λ d. future (x % 128) (x / 128) d)))
       (λ u. only-none c p xs w at (ltb (x / 128) 127) (unary (λ d. future (x % 128) (x / 128) d)) (λ v. unary-none c p xs w at (λ d. future (x % 128) (x / 128) d) (λ d. rw (sym e ∙ t))))
 
   pub future-well : (r : ℕ) → c ≤ 64 → o ≡ two c (x % 128) (x / 128) → o ≡ true → TermEnds c p (bound F g (x + 2080768)) g w at r → FormEnds c p F g w 12 x at r
-  unfolding FormEnds TermEnds headIn heads wellFormed formed two
+  unfolding FormEnds TermEnds Kinds headIn headOf wellFormed formed two
   future-well r m e t j xs s =
       let u : two c (x % 128) (x / 128) ≡ true = sym e ∙ t in
       let v = and₂ (isVariable c (x % 128) && isVariable c (x / 128)) (not (eqb (x % 128) (x / 128))) u in

@@ -3,12 +3,13 @@ ghost use Prim.Native.Nat.{_+_, _≤_, _<_, _/_, _%_};
 ghost use lib.ListN.{length};
 ghost use Rattle.checks.specs.Bound.{Kept};
 ghost use Rattle.wellformed.specs.Words.{holds};
-ghost use Rattle.wellformed.specs.Ends.{bound, Leaf, Counted, Operands, Closed, TermEnds, FormEnds, LiteralEnds, FieldsEnd, MethodsEnd};
+ghost use Rattle.wellformed.specs.Ends.{bound, Leaf, Counted, Unlisted, Operands, Closed, TermEnds, FormEnds, LiteralEnds, FieldsEnd, MethodsEnd};
 use crate::FAIL;
 use crate::PAYLOAD;
 use crate::header;
 use crate::scopes;
 use crate::word;
+use layout::kinds as table;
 
 // What holds where a term stands: whose it is, how many words the state has, whether it may refer, and the level of its scope.
 pub struct Context {
@@ -45,21 +46,30 @@ fn counted(ok: bool, n: usize) -> usize
     0
 }
 
+// The same for a call or a send: who is asked, and the arguments that are counted in the word.
+fn message_operands(h: u32, words: u32) -> usize
+    requires { ⌜ (117440512 ≤ h) × (words ≤ 64) × Unlisted (h / 16777216) ⌝ }
+    ensures { λ r. ⌜ Operands words h r ⌝ }
+{
+    let n = header::arguments(h % PAYLOAD);
+    match h / PAYLOAD {
+        13 => counted(word::call_name(h, words), n),
+        14 => counted(crate::message_name(h, words), n),
+        _ => 0,
+    }
+}
+
 // How many terms stand behind the word `h` of an operator, all in its own scope. 0 says that it is none, or not with this payload.
 fn operands(h: u32, words: u32) -> usize
     requires { ⌜ (117440512 ≤ h) × (words ≤ 64) ⌝ }
     ensures { λ r. ⌜ Operands words h r ⌝ }
 {
+    let k = h / PAYLOAD;
     let p = h % PAYLOAD;
-    let n = header::arguments(p);
-    match h / PAYLOAD {
-        7 => counted(p == 0, 2),
-        8 => counted(p == 0, 2),
-        9 => counted(word::is_name(p, words), 1),
-        10 => counted(word::is_name(p, words), 2),
-        13 => counted(word::call_name(h, words), n),
-        14 => counted(crate::message_name(h, words), n),
-        _ => 0,
+    match table::operator(k) {
+        1 => counted(p == 0, table::operands(k) as usize),
+        2 => counted(word::is_name(p, words), table::operands(k) as usize),
+        _ => message_operands(h, words),
     }
 }
 
