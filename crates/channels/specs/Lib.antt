@@ -1,5 +1,6 @@
 pub mod Machine
 pub mod Actors
+pub mod ActorMachine
 pub mod Lists
 pub mod Follow
 pub mod Stable

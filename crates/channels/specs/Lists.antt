@@ -7,7 +7,8 @@ use Prim.Native.Nat.{ℕ, zero, suc}
 use lib.ListN.{replicate}
 use lib.Dec.{eqb}
 use Rattle.channels.specs.Machine.{push, order, Leads, moved, ends, moved-leads, same-ends}
-use Rattle.channels.specs.Actors.{Kind, Actors, Laws, free, sentTo, isMade, Chan, self, box, maker, Name, by, from, uses, only, machine, eqb-true}
+use Rattle.channels.specs.Actors.{Kind, Actors, Laws, sentTo, isMade, eqb-true}
+use Rattle.channels.specs.ActorMachine.{free, Chan, self, box, maker, Name, by, from, uses, only, machine}
 
 module _ {L P Q : Type 0} where
   -- how many moves actor a made

@@ -19,8 +19,9 @@ use Rattle.schedule.specs.Claim.{Event, event, eventsOf, trace, senders,
 use Rattle.atlite.specs.Facts.{none-some}
 use Rattle.atlite.specs.Move as S
 use Rattle.channels.specs.Machine as T
-use Rattle.channels.specs.Actors.{quiet, sent, made, free}
-use Rattle.channels.specs.Actors as M
+use Rattle.channels.specs.Actors.{quiet, sent, made}
+use Rattle.channels.specs.ActorMachine.{free}
+use Rattle.channels.specs.ActorMachine as M
 use Rattle.channels.specs.Lists as L
 use Rattle.channels.specs.Stable.{Grows}
 use Rattle.channels.specs.Instance.{spread-after, Deed, deed, outcome, local, blank, Any, A, laws}
