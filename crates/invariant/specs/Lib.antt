@@ -1,7 +1,8 @@
 pub mod Terms
 pub mod Forms
 pub mod Entries
-pub mod Own
+pub mod RuleTerms
+pub mod OwnActor
 pub mod Passed
 pub mod Effects
 pub mod Growing
