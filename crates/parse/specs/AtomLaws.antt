@@ -3,7 +3,7 @@ use mathlib.Core.Path.{_≡_, refl, sym, _∙_}
 use mathlib.Core.Bool.{Bool, true, false, false≢true}
 use mathlib.Core.Option.{Option, none, some}
 use mathlib.Core.List.{List, [], _∷_}
-use Prim.Native.Nat.{ℕ, _+_, _-_, _≤_, _<_}
+use Prim.Native.Nat.{ℕ, _+_, _≤_, _<_}
 use native.Mathlib.Omega.{arith}
 use borrow.Author.Needs.{needs}
 use lib.ListN.{length, drop, set}
@@ -14,7 +14,7 @@ use Rattle.atlite.specs.Script.{Src}
 use Rattle.atlite.specs.Reader.{item, atom, readAtom, readWord}
 use Rattle.atlite.specs.Facts.{same-true, same-false-sym}
 use Rattle.words.specs.Wide.{wide, wideSrc}
-use Rattle.scan.specs.Runs.{Run, Starts}
+use Rattle.scan.specs.Runs.{Run}
 use Rattle.parse.specs.declared.numbers.Number.{Number as Numbers}
 use Rattle.parse.specs.declared.numbers.Number.the-variants.{Is, Not}
 use Rattle.parse.specs.declared.names.Name.{Name}
@@ -22,20 +22,9 @@ use Rattle.parse.specs.declared.names.Name.the-variants.{Word, NoWord}
 use Rattle.parse.specs.declared.scratch.Step.{Step}
 use Rattle.parse.specs.declared.scratch.Step.the-variants.{Done, Bad}
 use Rattle.parse.specs.Atoms.{NumberIs, Named, NameOf}
-use Rattle.parse.specs.NameLaws.{eat-starts, eat-not, starts-room, name-small}
-use Rattle.parse.specs.Steps.{Took, Closed}
+use Rattle.parse.specs.NameLaws.{name-small}
+use Rattle.parse.specs.Steps.{Took}
 
--- ---- the closing bracket
-module _ (t : Bytes) (at : ℕ) (old new : List ℕ) (o w p : ℕ) (r : Bool) (s : Starts t at (41 ∷ []) r) where
-  pub close-so : (a : Step) → r ≡ true → a ≡ Done (at + 1) p → new ≡ set old o w → Closed t at old o w p new a
-  unfolding Closed
-  close-so a k e u = rw e (record { is = eat-starts t at 41 r s k; next = refl; within = starts-room t at 1 (41 ∷ []) r s k refl; ends = refl; wrote = u })
-
-  pub close-not : r ≡ false → Closed t at old o w p new Bad
-  unfolding Closed
-  close-not k = eat-not t at 41 r s k
-
--- ---- atoms
 number-filled : (w : Bytes) → isNumber w ≡ true → 0 < length w
 unfolding isNumber
 number-filled [] h = absurd (false≢true h)
@@ -153,4 +142,4 @@ number-small w d n s q = rw q at s .2
 pub number-not : (w : Bytes) (d : Numbers) → NumberIs w d → d ≡ Not → NumberIs w Not
 number-not w d s q = rw q at s
 
-pub ruleset laws = (needs, close-so, close-not, starts-room, empty-atom, number-atom, null-atom, this-atom, var-atom, no-atom, name-small, number-small, number-not)
+pub ruleset laws = (needs, empty-atom, number-atom, null-atom, this-atom, var-atom, no-atom, name-small, number-small, number-not)

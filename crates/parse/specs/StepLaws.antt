@@ -5,6 +5,7 @@ use mathlib.Core.List.{List, [], _∷_}
 use Prim.Native.Nat.{ℕ, suc, _+_, _-_, _*_, _≤_, _<_}
 use native.Mathlib.Numerals.{add-one}
 use native.Mathlib.Omega.{arith}
+use borrow.Author.Needs.{needs}
 use lib.ListN.{length, drop, set}
 use lib.Seq.{sets, set-comm}
 use Rattle.atlite.specs.Base.{Result, done, refused, _>>=_}
@@ -131,6 +132,18 @@ module _ (A : Type 0) (enc : A → List ℕ) (t : Bytes) (at o : ℕ) (old new :
         short = omega arith;
       }
   finish mid xs v w j q Q Bad e c m l s f r = e ∙ rw r
+
+-- ---- the closing bracket
+module _ (t : Bytes) (at : ℕ) (old new : List ℕ) (o w p : ℕ) (r : Bool) (s : Starts t at (41 ∷ []) r) where
+  pub close-so : (a : Step) → r ≡ true → a ≡ Done (at + 1) p → new ≡ set old o w → Closed t at old o w p new a
+  unfolding Closed
+  close-so a k e u = rw e (record { is = eat-starts t at 41 r s k; next = refl; within = starts-room t at 1 (41 ∷ []) r s k refl; ends = refl; wrote = u })
+
+  pub close-not : r ≡ false → Closed t at old o w p new Bad
+  unfolding Closed
+  close-not k = eat-not t at 41 r s k
+
+pub ruleset closing = (needs, starts-room, close-so, close-not)
 
 -- ---- a space before
 module _ (t : Bytes) (at o : ℕ) (old new : List ℕ) (r : Bool) (s : Starts t at (32 ∷ []) r) where
