@@ -10,6 +10,7 @@ use native.Mathlib.Omega.{arith}
 use borrow.Author.Tests.{eqb-true, leb-true}
 use lib.Dec.{eqb, ltb, leb}
 use lib.ListN.{getD}
+use Rattle.atlite.specs.Base.{sameBytes}
 use Rattle.atlite.specs.Facts.{and₂}
 use Rattle.atlite.specs.Lexicon.{Bytes}
 use Rattle.atlite.specs.Keywords.{Keywords, opWord, nullWord, thisWord, defWord, fieldWord, methodWord, Operator, naming, fn, when, operators, spelling}
@@ -150,12 +151,20 @@ wordAt (r ∷ rs) k = cond (eqb (r .1) k) (r .0) (wordAt rs k)
 unfoldable pub wordIn : ℕ → Bytes
 wordIn k = wordAt keywords k
 
+unfoldable pub kindOf : List (Bytes × ℕ) → Bytes → ℕ
+kindOf [] w = 0
+kindOf (r ∷ rs) w = cond (sameBytes (r .0) w) (r .1) (kindOf rs w)
+
+-- the kind of a reserved word, 0 of any other
+unfoldable pub kindIn : Bytes → ℕ
+kindIn w = kindOf keywords w
+
 unfoldable pub Kinds : Unit {0}
 unfolding kindNumber formKind forms formAt formIn operandsOf demandOf scriptOperands rowOf rowIn arityIn
 Kinds = tt
 
 unfoldable pub Words : Unit {0}
-unfolding Keywords kindNumber operatorKind keywords wordAt wordIn
+unfolding Keywords kindNumber operatorKind keywords wordAt wordIn kindOf
 Words = tt
 
 -- ---- the table is gone through once

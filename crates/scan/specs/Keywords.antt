@@ -1,24 +1,25 @@
--- The reserved words, by their places in their list: a run that is one of them has its place, and one that is none has the list's
--- length. The code compares with those of a run's own length only. Assumes nothing.
+-- The reserved words and their kinds. The code compares a run with those of its own length only, and a run that is none of them has the
+-- kind 0. Assumes nothing.
 use mathlib.Core.Path.{_≡_, refl, sym, ap, _∙_}
-use mathlib.Core.Bool.{Bool, true, false, _&&_, _||_, not}
+use mathlib.Core.Bool.{Bool, true, false, false≢true, _&&_, _||_, not, cond}
 use mathlib.Core.Option.{some}
-use mathlib.Core.List.{List, [], _∷_, _++_}
+use mathlib.Core.List.{List, [], _∷_, _++_, map}
 use Prim.Native.Nat.{ℕ, zero, suc, _+_, _-_, _≤_, _<_}
 use native.Mathlib.Nat.{sub-zero, zero-sub, suc-sub-suc}
 use native.Mathlib.Omega.{arith}
 use borrow.Author.Needs.{needs}
-use borrow.Author.Tests.{lt-leb, le-leb, eq-eqb, eqb-true, eqb-false}
+use borrow.Author.Tests.{lt-leb, le-leb, eq-eqb, ne-eqb}
 use lib.Dec.{eqb}
 use lib.ListN.{length, getD, take, drop, take-append-drop}
 use lib.Seq.{slice, slice-cons, slice-empty, length-slice, take-append-seam, take-nil}
-use Rattle.atlite.specs.Base.{Base, bytes, sameBytes, all, if_then_else_}
+use Rattle.atlite.specs.Base.{Base, sameBytes, all, if_then_else_}
 use Rattle.atlite.specs.Lexicon.{Bytes, isLetter, inWord, letterFirst, among, isWord}
 use Rattle.atlite.specs.Keywords.{reserved}
 use Rattle.atlite.specs.Reader.{item, after}
-use Rattle.atlite.specs.Facts.{same-true, same-refl, none-some}
+use Rattle.atlite.specs.Facts.{and₂, same-true, same-refl, none-some}
+use Rattle.layout.specs.Kinds.{Words, keywords, kindOf, kindIn}
 use Rattle.reading.specs.Items.{after-whole}
-use Rattle.scan.specs.Runs.{Run, Starts, index}
+use Rattle.scan.specs.Runs.{Run, Starts, index, sized, Unlike, Sized, others}
 
 -- ---- the comparison with given bytes
 pub slice-take : (at e : ℕ) (t : Bytes) → slice at e t ≡ take (e - at) (drop at t)
@@ -88,43 +89,101 @@ module _ (w : Bytes) where
       go true k = omega arith
       go false k = omega arith
 
-  apart : (v : Bytes) → (length v ≡ length w → ⊥) → sameBytes v w ≡ false
-  apart v n = same-not v w (λ p. n (ap length p))
+-- ---- kinds
+-- no two kinds are the same, and none is 0
+unfoldable pub absent : ℕ → List (Bytes × ℕ) → Bool
+absent k [] = not (eqb k 0)
+absent k (r ∷ rs) = not (eqb k (r .1)) && absent k rs
 
-  -- the word itself
-  pub keyword-at : (k : ℕ) (r : Bool) → r ≡ sameBytes (getD reserved k []) w → r ≡ true → index reserved (getD reserved k []) ≡ k → k ≡ index reserved w
-  keyword-at k r h e i = sym (ap (index reserved) (sym (same-true (getD reserved k []) w (sym h ∙ e))) ∙ i)
+unfoldable pub distinct : List (Bytes × ℕ) → Bool
+distinct [] = true
+distinct (r ∷ rs) = absent (r .1) rs && distinct rs
 
-module _ (t : Bytes) (at e : ℕ) where
-  pub no-three : (at ≤ e) × (e ≤ length t) × (e - at ≡ 3) → (r0 : Bool) → r0 ≡ sameBytes (103 ∷ 101 ∷ 116 ∷ []) (slice at e t) → r0 ≡ false → (r1 : Bool) → r1 ≡ sameBytes (115 ∷ 101 ∷ 116 ∷ []) (slice at e t) → r1 ≡ false → (r2 : Bool) → r2 ≡ sameBytes (97 ∷ 115 ∷ 107 ∷ []) (slice at e t) → r2 ≡ false → (r3 : Bool) → r3 ≡ sameBytes (108 ∷ 101 ∷ 116 ∷ []) (slice at e t) → r3 ≡ false → (r4 : Bool) → r4 ≡ sameBytes (115 ∷ 101 ∷ 113 ∷ []) (slice at e t) → r4 ≡ false → (r5 : Bool) → r5 ≡ sameBytes (100 ∷ 101 ∷ 102 ∷ []) (slice at e t) → r5 ≡ false → 21 ≡ index reserved (slice at e t)
-  unfolding index reserved Base
-  no-three h r0 p0 q0 r1 p1 q1 r2 p2 q2 r3 p3 q3 r4 p4 q4 r5 p5 q5 =
-      let l = length-slice at e t (h .1) in
-      let n = h .2 in
-      rw (apart (slice at e t) (bytes "plus") (λ p. omega arith), apart (slice at e t) (bytes "percent") (λ p. omega arith), sym p0 ∙ q0, sym p1 ∙ q1, apart (slice at e t) (bytes "call") (λ p. omega arith), apart (slice at e t) (bytes "send") (λ p. omega arith), sym p2 ∙ q2, sym p3 ∙ q3, apart (slice at e t) (bytes "future") (λ p. omega arith), apart (slice at e t) (bytes "fn") (λ p. omega arith), apart (slice at e t) (bytes "resolve") (λ p. omega arith), apart (slice at e t) (bytes "when") (λ p. omega arith), sym p4 ∙ q4, apart (slice at e t) (bytes "object") (λ p. omega arith), apart (slice at e t) (bytes "isolate") (λ p. omega arith), apart (slice at e t) (bytes "actor") (λ p. omega arith), apart (slice at e t) (bytes "null") (λ p. omega arith), apart (slice at e t) (bytes "this") (λ p. omega arith), sym p5 ∙ q5, apart (slice at e t) (bytes "field") (λ p. omega arith), apart (slice at e t) (bytes "method") (λ p. omega arith))
+not-so : (b : Bool) → not b ≡ true → b ≡ false
+not-so true h = absurd (false≢true h)
+not-so false h = refl
 
-  pub no-four : (at ≤ e) × (e ≤ length t) × (e - at ≡ 4) → (r0 : Bool) → r0 ≡ sameBytes (112 ∷ 108 ∷ 117 ∷ 115 ∷ []) (slice at e t) → r0 ≡ false → (r1 : Bool) → r1 ≡ sameBytes (99 ∷ 97 ∷ 108 ∷ 108 ∷ []) (slice at e t) → r1 ≡ false → (r2 : Bool) → r2 ≡ sameBytes (115 ∷ 101 ∷ 110 ∷ 100 ∷ []) (slice at e t) → r2 ≡ false → (r3 : Bool) → r3 ≡ sameBytes (119 ∷ 104 ∷ 101 ∷ 110 ∷ []) (slice at e t) → r3 ≡ false → (r4 : Bool) → r4 ≡ sameBytes (110 ∷ 117 ∷ 108 ∷ 108 ∷ []) (slice at e t) → r4 ≡ false → (r5 : Bool) → r5 ≡ sameBytes (116 ∷ 104 ∷ 105 ∷ 115 ∷ []) (slice at e t) → r5 ≡ false → 21 ≡ index reserved (slice at e t)
-  unfolding index reserved Base
-  no-four h r0 p0 q0 r1 p1 q1 r2 p2 q2 r3 p3 q3 r4 p4 q4 r5 p5 q5 =
-      let l = length-slice at e t (h .1) in
-      let n = h .2 in
-      rw (sym p0 ∙ q0, apart (slice at e t) (bytes "percent") (λ p. omega arith), apart (slice at e t) (bytes "get") (λ p. omega arith), apart (slice at e t) (bytes "set") (λ p. omega arith), sym p1 ∙ q1, sym p2 ∙ q2, apart (slice at e t) (bytes "ask") (λ p. omega arith), apart (slice at e t) (bytes "let") (λ p. omega arith), apart (slice at e t) (bytes "future") (λ p. omega arith), apart (slice at e t) (bytes "fn") (λ p. omega arith), apart (slice at e t) (bytes "resolve") (λ p. omega arith), sym p3 ∙ q3, apart (slice at e t) (bytes "seq") (λ p. omega arith), apart (slice at e t) (bytes "object") (λ p. omega arith), apart (slice at e t) (bytes "isolate") (λ p. omega arith), apart (slice at e t) (bytes "actor") (λ p. omega arith), sym p4 ∙ q4, sym p5 ∙ q5, apart (slice at e t) (bytes "def") (λ p. omega arith), apart (slice at e t) (bytes "field") (λ p. omega arith), apart (slice at e t) (bytes "method") (λ p. omega arith))
+absent-zero : (k : ℕ) (rs : List (Bytes × ℕ)) → absent k rs ≡ true → eqb k 0 ≡ false
+unfolding absent
+absent-zero k [] h = not-so (eqb k 0) h
+absent-zero k (r ∷ rs) h = absent-zero k rs (and₂ (not (eqb k (r .1))) (absent k rs) h .1)
 
-  pub no-seven : (at ≤ e) × (e ≤ length t) × (e - at ≡ 7) → (r0 : Bool) → r0 ≡ sameBytes (112 ∷ 101 ∷ 114 ∷ 99 ∷ 101 ∷ 110 ∷ 116 ∷ []) (slice at e t) → r0 ≡ false → (r1 : Bool) → r1 ≡ sameBytes (114 ∷ 101 ∷ 115 ∷ 111 ∷ 108 ∷ 118 ∷ 101 ∷ []) (slice at e t) → r1 ≡ false → (r2 : Bool) → r2 ≡ sameBytes (105 ∷ 115 ∷ 111 ∷ 108 ∷ 97 ∷ 116 ∷ 101 ∷ []) (slice at e t) → r2 ≡ false → 21 ≡ index reserved (slice at e t)
-  unfolding index reserved Base
-  no-seven h r0 p0 q0 r1 p1 q1 r2 p2 q2 =
-      let l = length-slice at e t (h .1) in
-      let n = h .2 in
-      rw (apart (slice at e t) (bytes "plus") (λ p. omega arith), sym p0 ∙ q0, apart (slice at e t) (bytes "get") (λ p. omega arith), apart (slice at e t) (bytes "set") (λ p. omega arith), apart (slice at e t) (bytes "call") (λ p. omega arith), apart (slice at e t) (bytes "send") (λ p. omega arith), apart (slice at e t) (bytes "ask") (λ p. omega arith), apart (slice at e t) (bytes "let") (λ p. omega arith), apart (slice at e t) (bytes "future") (λ p. omega arith), apart (slice at e t) (bytes "fn") (λ p. omega arith), sym p1 ∙ q1, apart (slice at e t) (bytes "when") (λ p. omega arith), apart (slice at e t) (bytes "seq") (λ p. omega arith), apart (slice at e t) (bytes "object") (λ p. omega arith), sym p2 ∙ q2, apart (slice at e t) (bytes "actor") (λ p. omega arith), apart (slice at e t) (bytes "null") (λ p. omega arith), apart (slice at e t) (bytes "this") (λ p. omega arith), apart (slice at e t) (bytes "def") (λ p. omega arith), apart (slice at e t) (bytes "field") (λ p. omega arith), apart (slice at e t) (bytes "method") (λ p. omega arith))
+keywords-distinct : distinct keywords ≡ true
+unfolding distinct absent Words
+keywords-distinct = refl
 
-  pub no-other : (at ≤ e) × (e ≤ length t) × (e - at ≡ 3 → ⊥) × (e - at ≡ 4 → ⊥) × (e - at ≡ 7 → ⊥) → (r0 : Bool) → r0 ≡ sameBytes (102 ∷ 117 ∷ 116 ∷ 117 ∷ 114 ∷ 101 ∷ []) (slice at e t) → r0 ≡ false → (r1 : Bool) → r1 ≡ sameBytes (102 ∷ 110 ∷ []) (slice at e t) → r1 ≡ false → (r2 : Bool) → r2 ≡ sameBytes (111 ∷ 98 ∷ 106 ∷ 101 ∷ 99 ∷ 116 ∷ []) (slice at e t) → r2 ≡ false → (r3 : Bool) → r3 ≡ sameBytes (97 ∷ 99 ∷ 116 ∷ 111 ∷ 114 ∷ []) (slice at e t) → r3 ≡ false → (r4 : Bool) → r4 ≡ sameBytes (102 ∷ 105 ∷ 101 ∷ 108 ∷ 100 ∷ []) (slice at e t) → r4 ≡ false → (r5 : Bool) → r5 ≡ sameBytes (109 ∷ 101 ∷ 116 ∷ 104 ∷ 111 ∷ 100 ∷ []) (slice at e t) → r5 ≡ false → 21 ≡ index reserved (slice at e t)
-  unfolding index reserved Base
-  no-other h r0 p0 q0 r1 p1 q1 r2 p2 q2 r3 p3 q3 r4 p4 q4 r5 p5 q5 =
-      let l = length-slice at e t (h .1) in
-      let n = h .2 in
-      let m = h .3 in
-      let k = h .4 in
-      rw (apart (slice at e t) (bytes "plus") (λ p. omega arith), apart (slice at e t) (bytes "percent") (λ p. omega arith), apart (slice at e t) (bytes "get") (λ p. omega arith), apart (slice at e t) (bytes "set") (λ p. omega arith), apart (slice at e t) (bytes "call") (λ p. omega arith), apart (slice at e t) (bytes "send") (λ p. omega arith), apart (slice at e t) (bytes "ask") (λ p. omega arith), apart (slice at e t) (bytes "let") (λ p. omega arith), sym p0 ∙ q0, sym p1 ∙ q1, apart (slice at e t) (bytes "resolve") (λ p. omega arith), apart (slice at e t) (bytes "when") (λ p. omega arith), apart (slice at e t) (bytes "seq") (λ p. omega arith), sym p2 ∙ q2, apart (slice at e t) (bytes "isolate") (λ p. omega arith), sym p3 ∙ q3, apart (slice at e t) (bytes "null") (λ p. omega arith), apart (slice at e t) (bytes "this") (λ p. omega arith), apart (slice at e t) (bytes "def") (λ p. omega arith), sym p4 ∙ q4, sym p5 ∙ q5)
+module _ (w : Bytes) where
+  -- by length
+  by-length : (p : ℕ → Bool) → p (length w) ≡ true → (rs : List (Bytes × ℕ)) → kindOf (sized p rs) w ≡ kindOf rs w
+  unfolding kindOf sized
+  by-length p h [] = refl
+  by-length p h (r ∷ rs) = go (p (length (r .0))) refl (sameBytes (r .0) w) refl (by-length p h rs)
+    where
+      go : (b : Bool) → p (length (r .0)) ≡ b → (c : Bool) → sameBytes (r .0) w ≡ c → kindOf (sized p rs) w ≡ kindOf rs w
+          → kindOf (cond b (r ∷ sized p rs) (sized p rs)) w ≡ cond c (r .1) (kindOf rs w)
+      go true e c d i = rw (d, i)
+      go false e true d i = absurd (false≢true (sym e ∙ ap (λ v. p (length v)) (same-true (r .0) w d) ∙ h))
+      go false e false d i = i
+
+  unlike-none : (rs : List (Bytes × ℕ)) → Unlike rs w → kindOf rs w ≡ 0
+  unfolding kindOf Unlike
+  unlike-none [] h = refl
+  unlike-none (r ∷ rs) h = rw (h .0) (unlike-none rs (h .1))
+
+  pub unlike : (v : Bytes) (r : Bool) → r ≡ sameBytes v w → r ≡ false → sameBytes v w ≡ false
+  unlike v r h e = sym h ∙ e
+
+  -- a word of the list
+  pub keyword-so : (v : Bytes) (k : ℕ) (r : Bool) → r ≡ sameBytes v w → r ≡ true → kindOf keywords v ≡ k → k ≡ kindIn w
+  unfolding kindIn
+  keyword-so v k r h e i = sym i ∙ ap (kindOf keywords) (same-true v w (sym h ∙ e))
+
+  -- a kind that none of the entries has is not the word's
+  pub kind-absent : (k : ℕ) (rs : List (Bytes × ℕ)) → absent k rs ≡ true → eqb k (kindOf rs w) ≡ false
+  unfolding absent kindOf
+  kind-absent k [] h = not-so (eqb k 0) h
+  kind-absent k (r ∷ rs) h = let (i, j) = and₂ (not (eqb k (r .1))) (absent k rs) h in go (sameBytes (r .0) w) i (kind-absent k rs j)
+    where
+      go : (b : Bool) → not (eqb k (r .1)) ≡ true → eqb k (kindOf rs w) ≡ false → eqb k (cond b (r .1) (kindOf rs w)) ≡ false
+      go true i j = not-so (eqb k (r .1)) i
+      go false i j = j
+
+-- the words of the entries are those with a kind
+module _ (w : Bytes) where
+  among-kind : (rs : List (Bytes × ℕ)) → distinct rs ≡ true → eqb (kindOf rs w) 0 ≡ not (among (map (λ r. r .0) rs) w)
+  unfolding distinct kindOf among
+  among-kind [] h = refl
+  among-kind (r ∷ rs) h = let (i, j) = and₂ (absent (r .1) rs) (distinct rs) h in go (sameBytes (r .0) w) (absent-zero (r .1) rs i) (among-kind rs j)
+    where
+      go : (b : Bool) → eqb (r .1) 0 ≡ false → eqb (kindOf rs w) 0 ≡ not (among (map (λ r. r .0) rs) w)
+          → eqb (cond b (r .1) (kindOf rs w)) 0 ≡ not (b || among (map (λ r. r .0) rs) w)
+      go true i j = i
+      go false i j = j
+
+  kind-none : eqb (kindIn w) 0 ≡ not (among reserved w)
+  unfolding Words kindIn
+  kind-none = among-kind keywords keywords-distinct
+
+  -- none of the words of its length
+  pub keyword-not : (p : ℕ → Bool) → p (length w) ≡ true → Unlike (sized p keywords) w → 0 ≡ kindIn w
+  unfolding kindIn
+  keyword-not p l u = sym (sym (by-length w p l keywords) ∙ unlike-none w (sized p keywords) u)
+
+pub slice-sized : (p : ℕ → Bool) (t : Bytes) (at e : ℕ) → Sized p t at e → p (length (slice at e t)) ≡ true
+slice-sized p t at e h = rw (length-slice at e t (h .within)) (h .size)
+
+module _ (t : Bytes) (at e : ℕ) (h : (at ≤ e) × (e ≤ length t)) where
+  pub sized-so : (n : ℕ) → e - at ≡ n → Sized (eqb n) t at e
+  sized-so n k = record { from = h .0; within = h .1; size = eq-eqb n (e - at) (sym k) }
+
+  pub sized-others : (e - at ≡ 3 → ⊥) → (e - at ≡ 4 → ⊥) → (e - at ≡ 7 → ⊥) → Sized others t at e
+  unfolding others
+  sized-others x y z = record { from = h .0; within = h .1; size = rw (ne-eqb (e - at) 3 x, ne-eqb (e - at) 4 y, ne-eqb (e - at) 7 z) }
+
+-- what the comparisons compute by
+unfoldable pub Compared : Unit {0}
+unfolding Base Words sized Unlike others
+Compared = tt
 
 -- ---- words
 item-all : (i : Bytes) → all inWord (item i .0) ≡ true
@@ -163,14 +222,10 @@ module _ (t : Bytes) (at e : ℕ) (h : Run t at e) where
   word-first r n p q = rw (first n ∙ sym p ∙ q)
 
   pub word-so : (r : Bool) (k : ℕ) → (e ≡ at → ⊥) → e - at ≤ 12 → r ≡ isLetter (getD t at 0) → r ≡ true
-      → k ≡ index reserved (slice at e t) → eqb k 21 ≡ isWord (slice at e t)
-  unfolding isWord reserved
+      → k ≡ kindIn (slice at e t) → eqb k 0 ≡ isWord (slice at e t)
+  unfolding isWord
   word-so r k n l p q i =
       let m = length-slice at e t (h .within) in
-      rw (first n ∙ sym p ∙ q, run-all, le-leb (length (slice at e t)) 12 (omega arith)) (go (eqb k 21) refl)
-    where
-      go : (b : Bool) → eqb k 21 ≡ b → b ≡ not (among reserved (slice at e t))
-      go true z = rw (among-none (slice at e t) reserved (sym i ∙ eqb-true k 21 z))
-      go false z = let y = index-le (slice at e t) reserved in let u = eqb-false k 21 z in rw (among-some (slice at e t) reserved (omega arith))
+      rw (first n ∙ sym p ∙ q, run-all, le-leb (length (slice at e t)) 12 (omega arith), i) (kind-none (slice at e t))
 
-pub ruleset laws = (needs, named-not, named-so, keyword-at, no-three, no-four, no-seven, no-other, word-empty, word-long, word-first, word-so)
+pub ruleset laws = (needs, named-not, named-so, unlike, keyword-so, slice-sized, sized-so, sized-others, word-empty, word-long, word-first, word-so)

@@ -12,7 +12,7 @@ use lib.ListN.{length, getD, drop, set, length-set, length-append, List·getD-ap
 use lib.Seq.{slice, getD-set-same, getD-set-other, getD-append-seam, drop-drop, length-slice}
 use Rattle.atlite.specs.Base.{bytes, sameBytes, all, if_then_else_}
 use Rattle.atlite.specs.Lexicon.{Bytes, inWord, isWord, among, noted, wordsFrom, wordsOf, withoutApply, dictionary, letterFirst, isLetter, isDigit}
-use Rattle.atlite.specs.Keywords.{reserved}
+use Rattle.atlite.specs.Keywords.{Keywords, reserved}
 use Rattle.atlite.specs.Reader.{item}
 use Rattle.atlite.specs.Facts.{and₂, both₂, or-false, same-true, same-refl, same-false-sym, tests-append}
 use Rattle.reading.specs.Items.{Ends}
@@ -125,7 +125,7 @@ module _ (w : Bytes) (low high : List ℕ) (n : ℕ) (a : Bool) where
   note-none r h k = record { kept = λ ws f. same ws (noted-known ws w (rw (sym h ∙ k))) f; more = omega arith; some = omega arith; lows = refl; highs = refl }
 
   apply-found : (ws : List Bytes) → Found ws low high n a → Found (noted ws (bytes "apply")) low high n true
-  unfolding bytes isWord letterFirst all inWord isLetter isDigit reserved among sameBytes
+  unfolding Keywords bytes isWord letterFirst all inWord isLetter isDigit among sameBytes
   apply-found ws f = go (among ws (bytes "apply")) refl
     where
       go : (b : Bool) → among ws (bytes "apply") ≡ b → Found (noted ws (bytes "apply")) low high n true

@@ -1,111 +1,112 @@
 // Reserved words, and the words that are a script's own.
 ghost use mathlib.Core.Path.{_≡_};
-ghost use Prim.Native.Nat.{_-_, _≤_};
+ghost use Prim.Native.Nat.{_≤_};
+ghost use lib.Dec.{eqb};
 ghost use lib.ListN.{length};
 ghost use lib.Seq.{slice};
 ghost use Rattle.atlite.specs.Lexicon.{isWord};
-ghost use Rattle.atlite.specs.Keywords.{reserved};
-ghost use Rattle.scan.specs.Runs.{Run, index};
+ghost use Rattle.layout.specs.Kinds.{kindIn};
+ghost use Rattle.scan.specs.Runs.{Run, Sized, others};
 use crate::bytes::is_letter;
 use crate::bytes::named;
 
-// The places of the reserved words in their list, by length, 21 for none: first those of three letters.
-fn three(text: &[u8], at: usize, end: usize) -> usize
-    requires { ⌜ (at ≤ end) × (end ≤ length (now text)) × (end - at ≡ 3) ⌝ }
-    ensures { λ r. ⌜ r ≡ index reserved (slice at end (now (text .entry))) ⌝ }
+// The kinds of the reserved words, by length, 0 for none: first those of three letters. A new word is a line.
+fn three(text: &[u8], at: usize, end: usize) -> u8
+    requires { ⌜ Sized (eqb 3) (now text) at end ⌝ }
+    ensures { λ r. ⌜ r ≡ kindIn (slice at end (now (text .entry))) ⌝ }
 {
     if named(text, at, end, b"get") {
-        return 2;
+        return 9;
     }
     if named(text, at, end, b"set") {
-        return 3;
-    }
-    if named(text, at, end, b"ask") {
-        return 6;
-    }
-    if named(text, at, end, b"let") {
-        return 7;
-    }
-    if named(text, at, end, b"seq") {
-        return 12;
-    }
-    if named(text, at, end, b"def") {
-        return 18;
-    }
-    21
-}
-
-fn four(text: &[u8], at: usize, end: usize) -> usize
-    requires { ⌜ (at ≤ end) × (end ≤ length (now text)) × (end - at ≡ 4) ⌝ }
-    ensures { λ r. ⌜ r ≡ index reserved (slice at end (now (text .entry))) ⌝ }
-{
-    if named(text, at, end, b"plus") {
-        return 0;
-    }
-    if named(text, at, end, b"call") {
-        return 4;
-    }
-    if named(text, at, end, b"send") {
-        return 5;
-    }
-    if named(text, at, end, b"when") {
-        return 11;
-    }
-    if named(text, at, end, b"null") {
-        return 16;
-    }
-    if named(text, at, end, b"this") {
-        return 17;
-    }
-    21
-}
-
-fn seven(text: &[u8], at: usize, end: usize) -> usize
-    requires { ⌜ (at ≤ end) × (end ≤ length (now text)) × (end - at ≡ 7) ⌝ }
-    ensures { λ r. ⌜ r ≡ index reserved (slice at end (now (text .entry))) ⌝ }
-{
-    if named(text, at, end, b"percent") {
-        return 1;
-    }
-    if named(text, at, end, b"resolve") {
         return 10;
     }
-    if named(text, at, end, b"isolate") {
+    if named(text, at, end, b"ask") {
+        return 64;
+    }
+    if named(text, at, end, b"let") {
+        return 11;
+    }
+    if named(text, at, end, b"seq") {
+        return 68;
+    }
+    if named(text, at, end, b"def") {
+        return 130;
+    }
+    0
+}
+
+fn four(text: &[u8], at: usize, end: usize) -> u8
+    requires { ⌜ Sized (eqb 4) (now text) at end ⌝ }
+    ensures { λ r. ⌜ r ≡ kindIn (slice at end (now (text .entry))) ⌝ }
+{
+    if named(text, at, end, b"plus") {
+        return 7;
+    }
+    if named(text, at, end, b"call") {
+        return 13;
+    }
+    if named(text, at, end, b"send") {
         return 14;
     }
-    21
+    if named(text, at, end, b"when") {
+        return 67;
+    }
+    if named(text, at, end, b"null") {
+        return 1;
+    }
+    if named(text, at, end, b"this") {
+        return 6;
+    }
+    0
+}
+
+fn seven(text: &[u8], at: usize, end: usize) -> u8
+    requires { ⌜ Sized (eqb 7) (now text) at end ⌝ }
+    ensures { λ r. ⌜ r ≡ kindIn (slice at end (now (text .entry))) ⌝ }
+{
+    if named(text, at, end, b"percent") {
+        return 8;
+    }
+    if named(text, at, end, b"resolve") {
+        return 66;
+    }
+    if named(text, at, end, b"isolate") {
+        return 16;
+    }
+    0
 }
 
 // Those of other lengths.
-fn other(text: &[u8], at: usize, end: usize) -> usize
-    requires { ⌜ (at ≤ end) × (end ≤ length (now text)) × (end - at ≡ 3 → ⊥) × (end - at ≡ 4 → ⊥) × (end - at ≡ 7 → ⊥) ⌝ }
-    ensures { λ r. ⌜ r ≡ index reserved (slice at end (now (text .entry))) ⌝ }
+fn other(text: &[u8], at: usize, end: usize) -> u8
+    requires { ⌜ Sized others (now text) at end ⌝ }
+    ensures { λ r. ⌜ r ≡ kindIn (slice at end (now (text .entry))) ⌝ }
 {
     if named(text, at, end, b"future") {
-        return 8;
+        return 12;
     }
     if named(text, at, end, b"fn") {
-        return 9;
+        return 65;
     }
     if named(text, at, end, b"object") {
-        return 13;
-    }
-    if named(text, at, end, b"actor") {
         return 15;
     }
+    if named(text, at, end, b"actor") {
+        return 17;
+    }
     if named(text, at, end, b"field") {
-        return 19;
+        return 128;
     }
     if named(text, at, end, b"method") {
-        return 20;
+        return 192;
     }
-    21
+    0
 }
 
-// The place of the word from `at` to `end` among the reserved words, or 21.
-pub fn keyword(text: &[u8], at: usize, end: usize) -> usize
+// The kind of the reserved word from `at` to `end`, or 0.
+pub fn keyword(text: &[u8], at: usize, end: usize) -> u8
     requires { ⌜ (at ≤ end) × (end ≤ length (now text)) ⌝ }
-    ensures { λ r. ⌜ r ≡ index reserved (slice at end (now (text .entry))) ⌝ }
+    ensures { λ r. ⌜ r ≡ kindIn (slice at end (now (text .entry))) ⌝ }
 {
     if end - at == 3 {
         return three(text, at, end);
@@ -131,7 +132,7 @@ pub fn is_word(text: &[u8], at: usize, end: usize) -> bool
         return false;
     }
     if is_letter(text[at]) {
-        return keyword(text, at, end) == 21;
+        return keyword(text, at, end) == 0;
     }
     false
 }

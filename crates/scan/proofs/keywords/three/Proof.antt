@@ -1,44 +1,31 @@
 -- Where a comparison holds the run is that reserved word; where all fail it is none. Assumes nothing.
-use Rattle.atlite.specs.Base.{Base}
-use Rattle.atlite.specs.Keywords.{reserved}
-use Rattle.scan.specs.Runs.{index}
-use Rattle.scan.specs.Keywords.{laws, no-three}
+use lib.Dec.{eqb}
+use Rattle.scan.specs.Keywords.{laws, keyword-not, Compared}
 use Rattle.scan.proofs.keywords.three.Statement.{statement}
 use Rattle.scan.proofs.keywords.three.Tie as tie
 
 pub three-spec : {M : Type 1} → statement M
-unfolding index reserved Base
+unfolding Compared
 three-spec =
     tie.close
     (tie.spec
-    (λ c. search laws)
-    (λ c κs. search laws)
-    (λ c. search laws)
-    (λ c. search laws)
-    (λ c κs. search laws)
-    (λ c. search laws)
-    (λ c. search laws)
-    (λ c κs. search laws)
-    (λ c. search laws)
-    (λ c. search laws)
-    (λ c κs. search laws)
-    (λ c. search laws)
-    (λ c. search laws)
-    (λ c κs. search laws)
-    (λ c. search laws)
-    (λ c. search laws)
-    (λ c κs. search laws)
-    (λ c. search laws)
-    (λ c.
-    let c5 = c .before .before .before in
-    let c4 = c5 .before .before .before in
-    let c3 = c4 .before .before .before in
-    let c2 = c3 .before .before .before in
-    let c1 = c2 .before .before .before in
-    no-three _ _ _ (c1 .before .before .before .before .pre)
-    _ (c1 .before .named .ensures) (c1 .if1 .left)
-    _ (c2 .before .named2 .ensures) (c2 .if2 .left)
-    _ (c3 .before .named3 .ensures) (c3 .if3 .left)
-    _ (c4 .before .named4 .ensures) (c4 .if4 .left)
-    _ (c5 .before .named5 .ensures) (c5 .if5 .left)
-    _ (c .before .named6 .ensures) (c .if6 .left)))
+    (λ c. search laws)  -- slice-aggregate-named
+    (λ c κs. search laws)  -- named-requires
+    (λ c. search laws)  -- returns
+    (λ c. search laws)  -- slice-aggregate-named-2
+    (λ c κs. search laws)  -- named-requires-2
+    (λ c. search laws)  -- returns-2
+    (λ c. search laws)  -- slice-aggregate-named-3
+    (λ c κs. search laws)  -- named-requires-3
+    (λ c. search laws)  -- returns-3
+    (λ c. search laws)  -- slice-aggregate-named-4
+    (λ c κs. search laws)  -- named-requires-4
+    (λ c. search laws)  -- returns-4
+    (λ c. search laws)  -- slice-aggregate-named-5
+    (λ c κs. search laws)  -- named-requires-5
+    (λ c. search laws)  -- returns-5
+    (λ c. search laws)  -- slice-aggregate-named-6
+    (λ c κs. search laws)  -- named-requires-6
+    (λ c. search laws)  -- returns-6
+    (λ c. keyword-not _ (eqb 3) (search laws) (search laws, (search laws, (search laws, (search laws, (search laws, (search laws, tt)))))))  -- returns-7
+    )
