@@ -1,11 +1,12 @@
 -- The laws of the descent, a set for each function. Assumes nothing.
 use borrow.Author.Needs.{needs}
+use Rattle.parse.specs.Operators.{field-counts}
 use Rattle.parse.specs.NameLaws.{starts-room, name-small}
 use Rattle.parse.specs.Headers.{spaced-small, spaced-within}
-use Rattle.parse.specs.StepLaws.{place-step, place-form, fall-step, fall-step-more, place-word, place-name, fall-word, fall-word-more, fall-name, fall₁, fall₂, fall₃, place-more, place-space, place-run, spaced-so, spaced-not, one-done, one-bad, two-first-bad, get-done, get-bad, get-first-bad, mid-word-bad, mid-first-bad, send-word-bad, send-first-bad, step-within, fall-open, fall-more}
-use Rattle.parse.specs.PartLaws.{two-part, last-done, last-bad, mid-part, send-part}
+use Rattle.parse.specs.StepLaws.{place-step, place-form, fall-step, fall-step-more, place-word, place-name, fall-word, fall-word-more, fall-name, fall₁, fall₂, fall₃, place-more, place-space, place-run, spaced-so, spaced-not, mid-word-bad, mid-first-bad, send-word-bad, send-first-bad, step-within, fall-open, fall-more}
+use Rattle.parse.specs.PartLaws.{parts-none, parts-bad, parts-more, one-part, mid-part, send-part}
 use Rattle.parse.specs.ArgumentLaws.{args-close, args-full, args-bad, args-more, argued-done, argued-bad, args-small}
-use Rattle.parse.specs.FormLaws.{expr-open, expr-atom, bracket-form, form-plus, form-percent, form-resolve, form-seq, form-get, form-set, form-when, form-call, form-message, form-ask, form-object, form-isolate, form-actor, form-let, form-future, form-fn, let-bad, let-done, fn-bad, fn-done, future-bad, future-later-bad, future-done}
+use Rattle.parse.specs.FormLaws.{expr-open, expr-atom, bracket-form, form-bare, form-field, form-resolve, form-seq, form-when, form-call, form-message, form-ask, form-object, form-isolate, form-actor, form-own, let-bad, let-done, fn-bad, fn-done, future-bad, future-later-bad, future-done}
 use Rattle.parse.specs.LiteralLaws.{place-list, fall-list, list-few, fields-full, fields-more, fields-none, field-bad, field-value-bad, field-done, literal-bad, literal-done, ended-done, ended-bad}
 use Rattle.parse.specs.MethodLaws.{methods-full, methods-more, methods-none, method-bad, method-value-bad, method-done, place-header, fall-header}
 
@@ -15,25 +16,17 @@ pub ruleset spaced-back = (spaced-so, spaced-not)
 
 pub ruleset spaced-misc = (needs, starts-room)
 
-pub ruleset one-place = (place-step)
+pub ruleset parts-place = (place-step)
 
-pub ruleset one-back = (one-done, one-bad)
+pub ruleset parts-fall = (fall-step, fall₂)
+
+pub ruleset parts-back = (parts-none, parts-bad, parts-more)
+
+pub ruleset parts-misc = (needs)
+
+pub ruleset one-back = (one-part)
 
 pub ruleset one-misc = (needs)
-
-pub ruleset two-place = (place-step)
-
-pub ruleset two-fall = (fall-step, fall₂)
-
-pub ruleset two-back = (two-part, two-first-bad)
-
-pub ruleset two-misc = (needs)
-
-pub ruleset get-place = (place-step, place-word)
-
-pub ruleset get-back = (get-done, get-bad, get-first-bad)
-
-pub ruleset get-misc = (needs, step-within, spaced-small)
 
 pub ruleset args-place = (place-step)
 
@@ -59,9 +52,9 @@ pub ruleset bracket-misc = (needs)
 
 pub ruleset form-place = (place-step)
 
-pub ruleset form-back = (form-plus, form-percent, form-resolve, form-seq, form-get, form-set, form-when, form-call, form-message, form-ask, form-object, form-isolate, form-actor, form-let, form-future, form-fn)
+pub ruleset form-back = (form-bare, form-field, form-resolve, form-seq, form-when, form-call, form-message, form-ask, form-object, form-isolate, form-actor, form-own)
 
-pub ruleset form-misc = (needs)
+pub ruleset form-misc = (needs, field-counts)
 
 pub ruleset let-in-place = (place-word)
 
@@ -73,7 +66,7 @@ pub ruleset let-in-misc = (needs, spaced-small)
 
 pub ruleset future-place = (place-word)
 
-pub ruleset future-fall = (fall-word, fall-word-more, fall₂)
+pub ruleset future-fall = (fall-word, fall-word-more, fall₃)
 
 pub ruleset future-back = (future-bad, future-later-bad, future-done)
 
@@ -81,7 +74,7 @@ pub ruleset future-misc = (needs, spaced-small, spaced-within)
 
 pub ruleset func-place = (place-word)
 
-pub ruleset func-fall = (fall-word, fall₂)
+pub ruleset func-fall = (fall-word, fall₃)
 
 pub ruleset func-back = (fn-bad, fn-done)
 
@@ -105,7 +98,7 @@ pub ruleset fields-misc = (needs, starts-room)
 
 pub ruleset field-place = (place-name, place-form)
 
-pub ruleset field-fall = (fall-name, fall-step-more, fall₁, fall₂)
+pub ruleset field-fall = (fall-name, fall-step-more, fall₁, fall₃)
 
 pub ruleset field-back = (field-bad, field-value-bad, field-done)
 
@@ -121,7 +114,7 @@ pub ruleset methods-misc = (needs, starts-room)
 
 pub ruleset method-place = (place-header, place-form)
 
-pub ruleset method-fall = (fall-header, fall-step-more, fall₁, fall₂)
+pub ruleset method-fall = (fall-header, fall-step-more, fall₁, fall₃)
 
 pub ruleset method-back = (method-bad, method-value-bad, method-done)
 
@@ -142,12 +135,6 @@ pub ruleset message-fall = (fall-step, fall-word-more, fall₃)
 pub ruleset message-back = (send-part, send-word-bad, send-first-bad)
 
 pub ruleset message-misc = (needs, step-within, spaced-small)
-
-pub ruleset last-place = (place-step)
-
-pub ruleset last-back = (last-done, last-bad)
-
-pub ruleset last-misc = (needs)
 
 pub ruleset arguments-place = (place-step)
 

@@ -3,32 +3,34 @@
 use mathlib.Core.Path.{_≡_, refl, sym, ap, _∙_}
 use mathlib.Core.Bool.{Bool, true, false}
 use mathlib.Core.Option.{Option, none, some}
-use mathlib.Core.List.{List, [], _∷_, _++_, append-nil, map}
-use Prim.Native.Nat.{ℕ, suc, _+_, _-_, _≤_, _<_}
+use mathlib.Core.List.{List, [], _∷_, _++_, append-nil}
+use Prim.Native.Nat.{ℕ, zero, suc, _+_, _-_, _/_, _%_, _≤_}
 use native.Mathlib.Omega.{arith}
 use borrow.Author.Tests.{eqb-true, eqb-false, ne-eqb}
 use lib.Dec.{eqb}
-use lib.ListN.{length, drop, getElem?}
+use lib.ListN.{length, drop}
 use lib.Seq.{slice}
-use Rattle.atlite.specs.Base.{Base, Result, done, refused, orRefuse, _>>=_, bytes, sameBytes, if_then_else_}
-use Rattle.atlite.specs.Facts.{get-past}
-use Rattle.atlite.specs.Term.{Kind, object, isolate, actor, plus, percent, get, set, call, send}
+use Rattle.atlite.specs.Base.{Base, refused, orRefuse, _>>=_, if_then_else_}
+use Rattle.atlite.specs.Term.{Shape, exactly, Kind, object, isolate, actor, call, send}
 use Rattle.atlite.specs.Lexicon.{Bytes, dictionary, isNumber, isWord, letterFirst}
-use Rattle.atlite.specs.Keywords.{reserved, Operator, operators}
-use Rattle.atlite.specs.Script.{SrcOp, kept, ask, resolve, seq, Src, op, nil, cons, countSrcs}
-use Rattle.atlite.specs.Reader.{Reading, spelled, operator, item, after, atom, readAtom, readItems, readOperands, readForm, readExpr}
-use Rattle.layout.specs.Terms.{kindNumber}
+use Rattle.atlite.specs.Keywords.{Operator, naming, operators}
+use Rattle.atlite.specs.Script.{SrcOp, kept, ask, resolve, seq, srcShape, Src, op, Srcs, nil, cons, countSrcs}
+use Rattle.atlite.specs.Reader.{Reading, item, after, atom, readAtom, readItems, least, more, readOperands, readForm, readExpr}
+use Rattle.layout.specs.Terms.{kindNumber, labelNumber}
 use Rattle.layout.specs.Tables.{srcKind}
-use Rattle.words.specs.Wide.{wide, pair, widePayload, wideSrc}
-use Rattle.scan.specs.Runs.{Run, Starts, index}
+use Rattle.layout.specs.Kinds.{Words, kindIn, rowIn}
+use Rattle.words.specs.Wide.{wide, pair, widePayload, wideSrc, wideSrcs}
+use Rattle.scan.specs.Runs.{Run, Starts}
 use Rattle.parse.specs.declared.names.Name.{Name}
 use Rattle.parse.specs.declared.names.Name.the-variants.{Word, NoWord}
 use Rattle.parse.specs.declared.scratch.Step.{Step}
-use Rattle.parse.specs.declared.scratch.Step.the-variants.{Done, Bad}
+use Rattle.parse.specs.declared.scratch.Step.the-variants.{Bad}
 use Rattle.parse.specs.Atoms.{SpacedName}
-use Rattle.parse.specs.Steps.{Took, Reads, exprs, brackets, formBy, forms, readOne, ones, oneWords, readPair, twos, twoWords, readGet, gets, getWords, readMid, mids, midWords, readArgs, readSend, sends, sendWords, readLiteral, literals, literalWords}
+use Rattle.parse.specs.Operators.{operatorOf, operator-kind, Told, isBare, isField, isNone, told, ownKinds, Unformed, no-operator}
+use Rattle.parse.specs.Steps.{Took, Reads, exprs, brackets, formBy, forms, readOne, ones, oneWords, Parts, readParts, parts, partWords, headWords, readMid, mids, midWords, Follow, readArgs, readSend, sends, sendWords, readLiteral, literals, literalWords}
 use Rattle.parse.specs.NameLaws.{starts-room, spaced-read, spaced-refused}
-use Rattle.parse.specs.StepLaws.{shift}
+use Rattle.parse.specs.StepLaws.{shift, bind-assoc, under, took-under}
+use Rattle.parse.specs.PartLaws.{whole}
 
 -- ---- the first byte
 open-byte : (i j : Bytes) → after (40 ∷ []) i ≡ some j → i ≡ 40 ∷ j
@@ -72,223 +74,212 @@ module _ (t : Bytes) (at o : ℕ) (old new : List ℕ) (r : Bool) (s : Starts t 
       (ap (λ (m : ℕ). readExpr operators m (dictionary t) (drop at t)) (sym z) ∙ not-open (n - 1) (dictionary t) (drop at t) (rw k at s)) h
 
 -- ---- the operator
-abbrev shapes : List (Bytes × Operator) → List Operator
-shapes rs = map (λ r. r .1) rs
-
-spelled-index : (rs : List (Bytes × Operator)) (vs : List Bytes) (w : Bytes) → spelled rs w ≡ getElem? (shapes rs) (index (map (λ r. r .0) rs ++ vs) w)
-unfolding spelled index if_then_else_
-spelled-index [] vs w = refl
-spelled-index (r ∷ rs) vs w = go (sameBytes (r .0) w) (spelled-index rs vs w)
-  where
-    go : (b : Bool) → spelled rs w ≡ getElem? (shapes rs) (index (map (λ r. r .0) rs ++ vs) w)
-        → (if b then some (r .1) else spelled rs w) ≡ getElem? (r .1 ∷ shapes rs) (if b then 0 else suc (index (map (λ r. r .0) rs ++ vs) w))
-    go true e = refl
-    go false e = e
-
-operator-index : (w : Bytes) → spelled operators w ≡ getElem? (shapes operators) (index reserved w)
-unfolding operator operators reserved Base
-operator-index w = spelled-index operators (bytes "null" ∷ bytes "this" ∷ bytes "def" ∷ bytes "field" ∷ bytes "method" ∷ []) w
-
 module _ (t : Bytes) (at e o k : ℕ) (old new : List ℕ) (a : Step) where
-  operator-form : (n : ℕ) → Run t at e → k ≡ index reserved (slice at e t) → brackets t n (drop at t) ≡ forms k t n (drop e t)
+  operator-form : (n : ℕ) → Run t at e → k ≡ kindIn (slice at e t) → brackets t n (drop at t) ≡ forms k t n (drop e t)
   unfolding brackets forms formBy orRefuse
-  operator-form n h p = rw (h .is, h .rest, operator-index (slice at e t), ← p) (go (getElem? (shapes operators) k))
+  operator-form n h p = rw (h .is, h .rest, operator-kind (slice at e t), ← p) (go (operatorOf operators k))
     where
       go : (x : Option Operator) → (orRefuse 2 x >>= λ q. readForm q (dictionary t) (readExpr operators n (dictionary t)) (drop e t))
           ≡ (elim x [ none ↦ refused 2 | some q ↦ readForm q (dictionary t) (readExpr operators n (dictionary t)) (drop e t) ])
       go none = refl
       go (some q) = refl
 
-  pub bracket-form : Run t at e → k ≡ index reserved (slice at e t) → Reads wideSrc (forms k t) t e o old new a → Reads wideSrc (brackets t) t at o old new a
+  pub bracket-form : Run t at e → k ≡ kindIn (slice at e t) → Reads wideSrc (forms k t) t e o old new a → Reads wideSrc (brackets t) t at o old new a
   unfolding Reads
   bracket-form h p s n l =
       let f = h .from in
       shift Src wideSrc t at o old new e _ _ a f (operator-form n h p) (s n (omega arith))
 
--- ---- the same words under a constructor
-pub bind-assoc : {A B C : Type 0} (x : Result A) (f : A → Result B) (g : B → Result C) → _>>=_ (_>>=_ x f) g ≡ _>>=_ x (λ a. _>>=_ (f a) g)
-bind-assoc (done a) f g = refl
-bind-assoc (refused n) f g = refl
+-- ---- forms by their shapes
+unfoldable partSrcs : (n : ℕ) → Parts n → Srcs
+partSrcs zero v = nil
+partSrcs (suc n) v = cons (v .0) (partSrcs n (v .1))
 
-module _ {A : Type 0} (f : A → Src) where
-  abbrev under : A × Bytes → Result (Src × Bytes)
-  under r = done (f (r .0), r .1)
+operands-parts : (n : ℕ) (R : Reading Src) (i : Bytes) → readOperands R n 0 i ≡ (readParts n R i >>= under (partSrcs n))
+unfolding readOperands readItems readParts partSrcs
+operands-parts zero R i = simp bind-assoc
+operands-parts (suc n) R i = simp (operands-parts n, bind-assoc)
 
-  module _ (enc : A → List ℕ) (h : (v : A) → wideSrc (f v) ≡ enc v) (t : Bytes) (at b o : ℕ) (old new : List ℕ) (l : at ≤ b) where
-    took-under : (R : Result (A × Bytes)) (Q : Result (Src × Bytes)) (a : Step) → Q ≡ (R >>= under) → Took enc t b o old new R a
-        → Took wideSrc t at o old new Q a
-    unfolding Took
-    took-under R Q (Done i p) q r =
-        let far = r .far in
-        let short = r .short in
-        record {
-          value = f (r .value);
-          is = q ∙ rw (r .is);
-          far = omega arith;
-          within = r .within;
-          wrote = rw (h (r .value)) (r .wrote);
-          ends = rw (h (r .value)) (r .ends);
-          short = omega arith;
-        }
-    took-under R Q Bad q r = q ∙ rw r
+parts-words : (n : ℕ) (v : Parts n) → wideSrcs (partSrcs n v) ≡ partWords n v
+unfolding wideSrc partSrcs partWords
+parts-words zero v = refl
+parts-words (suc n) v = ap (λ w. wideSrc (v .0) ++ w) (parts-words n (v .1))
 
-    -- behind the operator with the number k its parts are read, from b on
-    form-as : (R : ℕ → Reading A) (k : ℕ) (a : Step) → ((n : ℕ) → forms k t n (drop at t) ≡ (R n (drop b t) >>= under))
-        → Reads enc R t b o old new a → Reads wideSrc (forms k t) t at o old new a
-    unfolding Reads
-    form-as R k a q s n m = took-under _ _ a (q n) (s n (omega arith))
+payload-none : (q : SrcOp) (n m : ℕ) → srcShape q ≡ exactly n → widePayload q m ≡ 0
+unfolding widePayload
+payload-none q n m e = ap (λ s. labelNumber pair s m) e
+
+payload-field : (q : SrcOp) (f n m : ℕ) → srcShape q ≡ Shape.onField f n → widePayload q m ≡ f
+unfolding widePayload
+payload-field q f n m e = ap (λ s. labelNumber pair s m) e
 
 -- what a form's reader and its words compute by
 unfoldable Forms : Unit {0}
-unfolding forms formBy operators readForm readOperands readItems wideSrc widePayload countSrcs twos twoWords readPair gets getWords readGet mids midWords readMid sends sendWords readSend readArgs literals literalWords readLiteral kindNumber ones oneWords readOne
+unfolding forms formBy readForm readOperands readItems wideSrc widePayload countSrcs parts readParts partWords headWords mids midWords readMid sends sendWords readSend readArgs literals literalWords readLiteral kindNumber ones oneWords readOne operatorOf Words
 Forms = tt
 
+forms-is : (q : Operator) (k : ℕ) (t : Bytes) (n : ℕ) (i : Bytes) → operatorOf operators k ≡ some q → forms k t n i ≡ readForm q (dictionary t) (readExpr operators n (dictionary t)) i
+unfolding forms formBy
+forms-is q k t n i h = rw (h, formBy)
+
+module _ (ws : List Bytes) (R : Reading Src) (i : Bytes) where
+  bare-is : (q : SrcOp) (n : ℕ) → srcShape q ≡ exactly n → readForm (Operator.bare q) ws R i ≡ (readParts n R i >>= under (λ v. op q (partSrcs n v)))
+  unfolding readForm
+  bare-is q n e = go (srcShape q) e
+    where
+      go : (s : Shape ℕ) → s ≡ exactly n → (readOperands R (least s) (more s) i >>= under (op q)) ≡ (readParts n R i >>= under (λ v. op q (partSrcs n v)))
+      go s e = rw e (simp (operands-parts n, bind-assoc))
+
+  named-is : (c : ℕ → SrcOp) (n : ℕ) → ((f : ℕ) → srcShape (c f) ≡ Shape.onField f n)
+      → readForm (naming c) ws R i ≡ (readMid (n - 1) ws R i >>= under (λ v. op (c (v .1)) (cons (v .0) (partSrcs (n - 1) (v .2)))))
+  unfolding readForm readMid
+  named-is c n e = simp (e, operands-parts (n - 1), bind-assoc)
+
+kind-of : (c : Kind) (k : ℕ) → k ≡ kindNumber c → operatorOf operators k ≡ some (Operator.literal c)
+unfolding Words operatorOf
+kind-of Kind.object k e = rw e
+kind-of Kind.isolate k e = rw e
+kind-of Kind.actor k e = rw e
+
 module _ (t : Bytes) (at o : ℕ) (old new : List ℕ) (a : Step) where
-  -- two operands
-  form-two : (q : SrcOp) (k : ℕ) → widePayload q 2 ≡ 0
-      → ((n : ℕ) → forms k t n (drop at t) ≡ (twos t n (drop at t) >>= under (λ v. op q (cons (v .0) (cons (v .1) nil)))))
-      → Reads (twoWords (wide (srcKind q) 0)) (twos t) t at o old new a → Reads wideSrc (forms k t) t at o old new a
-  unfolding twoWords wideSrc countSrcs
-  form-two q k z r s =
-      form-as (λ v. op q (cons (v .0) (cons (v .1) nil))) _
-      (λ v. rw z (ap (λ w. wide (srcKind q) 0 ∷ (wideSrc (v .0) ++ w)) (append-nil (wideSrc (v .1))))) t at at o old new (omega arith) (twos t) k a r s
+  -- behind the operator of kind k its parts are read, from b on
+  form-as : {A : Type 0} (f : A → Src) (enc : A → List ℕ) → ((v : A) → wideSrc (f v) ≡ enc v) → (b : ℕ) → at ≤ b → (R : ℕ → Reading A) (k : ℕ)
+      → ((n : ℕ) → forms k t n (drop at t) ≡ (R n (drop b t) >>= under f)) → Reads enc R t b o old new a → Reads wideSrc (forms k t) t at o old new a
+  unfolding Reads
+  form-as f enc h b l R k q s n m = took-under f enc wideSrc h t at b o old new l _ _ a (q n) (s n (omega arith))
 
-  pub form-plus : (k : ℕ) → k ≡ 0 → Reads (twoWords 7) (twos t) t at o old new a → Reads wideSrc (forms k t) t at o old new a
-  unfolding Forms
-  form-plus k e s = rw e (form-two (kept plus) 0 refl (λ n. simp bind-assoc) s)
+  -- n operands
+  form-parts : (q : SrcOp) (k n : ℕ) → operatorOf operators k ≡ some (Operator.bare q) → srcShape q ≡ exactly n → srcKind q ≡ k
+      → Follow k n t at (o + 1) old o new a → Reads wideSrc (forms k t) t at o old new a
+  unfolding wideSrc headWords parts
+  form-parts q k n b c d s =
+      form-as (λ v. op q (partSrcs n v)) (headWords k n) (λ v. rw (parts-words n v, d, payload-none q n _ c) (ap (λ w. w ∷ partWords n v) (omega arith)))
+      at (omega arith) (parts n t) k (λ m. forms-is _ k t m _ b ∙ bare-is _ _ _ q n c) (whole t at o k n old new a s)
 
-  pub form-percent : (k : ℕ) → k ≡ 1 → Reads (twoWords 8) (twos t) t at o old new a → Reads wideSrc (forms k t) t at o old new a
-  unfolding Forms
-  form-percent k e s = rw e (form-two (kept percent) 1 refl (λ n. simp bind-assoc) s)
+  -- an operand, a name, and the other operands
+  form-named : (c : ℕ → SrcOp) (k n : ℕ) → operatorOf operators k ≡ some (naming c) → ((f : ℕ) → (srcShape (c f) ≡ Shape.onField f n) × (srcKind (c f) ≡ k))
+      → Reads (midWords k (n - 1)) (mids (n - 1) t) t at o old new a → Reads wideSrc (forms k t) t at o old new a
+  unfolding wideSrc midWords mids readMid
+  form-named c k n b h s =
+      form-as (λ v. op (c (v .1)) (cons (v .0) (partSrcs (n - 1) (v .2)))) (midWords k (n - 1))
+      (λ v. rw (parts-words (n - 1) (v .2), h (v .1) .1, payload-field (c (v .1)) (v .1) n _ (h (v .1) .0)))
+      at (omega arith) (mids (n - 1) t) k (λ m. forms-is _ k t m _ b ∙ named-is _ _ _ c n (λ f. h f .0)) s
 
-  pub form-resolve : (k : ℕ) → k ≡ 10 → Reads (twoWords 66) (twos t) t at o old new a → Reads wideSrc (forms k t) t at o old new a
-  unfolding Forms
-  form-resolve k e s = rw e (form-two resolve 10 refl (λ n. simp bind-assoc) s)
+  module _ (k f n : ℕ) (p : f ≡ rowIn k / 16) (m : n ≡ rowIn k % 4) where
+    pub form-bare : f ≡ 1 → Follow k n t at (o + 1) old o new a → Reads wideSrc (forms k t) t at o old new a
+    form-bare e s = go (told k)
+      where
+        go : Told k → Reads wideSrc (forms k t) t at o old new a
+        go (isBare q j b c d x y) = form-parts q k j b c d (rw (m ∙ y) at s)
+        go (isField c j b h x y z) = absurd (omega arith)
+        go (isNone x) = absurd (omega arith)
 
-  pub form-seq : (k : ℕ) → k ≡ 12 → Reads (twoWords 68) (twos t) t at o old new a → Reads wideSrc (forms k t) t at o old new a
-  unfolding Forms
-  form-seq k e s = rw e (form-two seq 12 refl (λ n. simp bind-assoc) s)
+    pub form-field : f ≡ 2 → Reads (midWords k (n - 1)) (mids (n - 1) t) t at o old new a → Reads wideSrc (forms k t) t at o old new a
+    form-field e s = go (told k)
+      where
+        go : Told k → Reads wideSrc (forms k t) t at o old new a
+        go (isBare q j b c d x y) = absurd (omega arith)
+        go (isField c j b h x y z) = form-named c k j b h (rw (m ∙ y) at s)
+        go (isNone x) = absurd (omega arith)
 
-  pub form-get : (k : ℕ) → k ≡ 2 → Reads getWords (gets t) t at o old new a → Reads wideSrc (forms k t) t at o old new a
-  unfolding Forms
-  form-get k e s =
-      rw e (form-as (λ v. op (kept (get (v .1))) (cons (v .0) nil)) getWords (λ v. ap (λ w. wide 9 (v .1) ∷ w) (append-nil (wideSrc (v .0))))
-      t at at o old new (omega arith) (gets t) 2 a (λ n. simp bind-assoc) s)
+  pub form-resolve : (k : ℕ) → k ≡ 66 → Follow k 2 t at (o + 1) old o new a → Reads wideSrc (forms k t) t at o old new a
+  unfolding Words operatorOf
+  form-resolve k e s = form-parts resolve k 2 (rw e) refl (sym e) s
 
-  pub form-set : (k : ℕ) → k ≡ 3 → Reads (midWords 10) (mids t) t at o old new a → Reads wideSrc (forms k t) t at o old new a
-  unfolding Forms
-  form-set k e s =
-      rw e (form-as (λ v. op (kept (set (v .1))) (cons (v .0) (cons (v .2) nil))) (midWords 10)
-      (λ v. ap (λ w. wide 10 (v .1) ∷ (wideSrc (v .0) ++ w)) (append-nil (wideSrc (v .2))))
-      t at at o old new (omega arith) (mids t) 3 a (λ n. simp bind-assoc) s)
+  pub form-seq : (k : ℕ) → k ≡ 68 → Follow k 2 t at (o + 1) old o new a → Reads wideSrc (forms k t) t at o old new a
+  unfolding Words operatorOf
+  form-seq k e s = form-parts seq k 2 (rw e) refl (sym e) s
 
-  pub form-when : (k : ℕ) → k ≡ 11 → Reads (midWords 67) (mids t) t at o old new a → Reads wideSrc (forms k t) t at o old new a
+  pub form-when : (k : ℕ) → k ≡ 67 → Reads (midWords k 1) (mids 1 t) t at o old new a → Reads wideSrc (forms k t) t at o old new a
   unfolding Forms
   form-when k e s =
-      rw e (form-as (λ v. Src.when (v .0) (v .1) (v .2)) (midWords 67) (λ v. refl) t at at o old new (omega arith) (mids t) 11 a (λ n. simp bind-assoc) s)
+      form-as (λ v. Src.when (v .0) (v .1) (v .2 .0)) (midWords k 1) (λ v. rw e (ap (λ w. wide 67 (v .1) ∷ (wideSrc (v .0) ++ w)) (sym (append-nil (wideSrc (v .2 .0))))))
+      at (omega arith) (mids 1 t) k (λ n. forms-is Operator.when k t n _ (rw e) ∙ simp bind-assoc) s
 
   -- a receiver, a name and arguments
-  form-send : (c : ℕ → SrcOp) (w k : ℕ) → ((m n : ℕ) → wide (srcKind (c m)) (widePayload (c m) (suc n)) ≡ wide w (pair m n))
-      → ((n : ℕ) → forms k t n (drop at t) ≡ (sends t n (drop at t) >>= under (λ v. op (c (v .1)) (cons (v .0) (v .2)))))
-      → Reads (sendWords w) (sends t) t at o old new a → Reads wideSrc (forms k t) t at o old new a
-  unfolding sendWords wideSrc countSrcs
-  form-send c w k h q s =
-      form-as (λ v. op (c (v .1)) (cons (v .0) (v .2))) (sendWords w) (λ v. rw (h (v .1) (countSrcs (v .2)))) t at at o old new (omega arith) (sends t) k a q s
+  form-send : (c : ℕ → SrcOp) (k : ℕ) → operatorOf operators k ≡ some (naming c) → ((m n : ℕ) → wide (srcKind (c m)) (widePayload (c m) (suc n)) ≡ wide k (pair m n))
+      → ((m : ℕ) → least (srcShape (c m)) ≡ 1) → ((m : ℕ) → more (srcShape (c m)) ≡ 3) → Reads (sendWords k) (sends t) t at o old new a → Reads wideSrc (forms k t) t at o old new a
+  unfolding sends readSend readArgs sendWords wideSrc countSrcs readForm readOperands
+  form-send c k b h p q s =
+      form-as (λ v. op (c (v .1)) (cons (v .0) (v .2))) (sendWords k) (λ v. rw (h (v .1) (countSrcs (v .2)))) at (omega arith) (sends t) k
+      (λ n. forms-is _ k t n _ b ∙ simp (p, q, bind-assoc)) s
 
-  pub form-call : (k : ℕ) → k ≡ 4 → Reads (sendWords 13) (sends t) t at o old new a → Reads wideSrc (forms k t) t at o old new a
+  pub form-call : (k : ℕ) → k ≡ 13 → Reads (sendWords k) (sends t) t at o old new a → Reads wideSrc (forms k t) t at o old new a
+  unfolding Words operatorOf widePayload
+  form-call k e s = form-send (λ m. kept (call m)) k (rw e) (λ m n. rw e) (λ m. refl) (λ m. refl) s
+
+  pub form-message : (k : ℕ) → k ≡ 14 → Reads (sendWords k) (sends t) t at o old new a → Reads wideSrc (forms k t) t at o old new a
+  unfolding Words operatorOf widePayload
+  form-message k e s = form-send (λ m. kept (send m)) k (rw e) (λ m n. rw e) (λ m. refl) (λ m. refl) s
+
+  pub form-ask : (k : ℕ) → k ≡ 64 → Reads (sendWords k) (sends t) t at o old new a → Reads wideSrc (forms k t) t at o old new a
+  unfolding Words operatorOf widePayload
+  form-ask k e s = form-send ask k (rw e) (λ m n. rw e) (λ m. refl) (λ m. refl) s
+
+  form-literal : (c : Kind) (k : ℕ) → k ≡ kindNumber c → Reads (literalWords k) (literals t) t at o old new a → Reads wideSrc (forms k t) t at o old new a
   unfolding Forms
-  form-call k e s = rw e (form-send (λ m. kept (call m)) 13 4 (λ m n. refl) (λ n. simp bind-assoc) s)
+  form-literal c k e s =
+      form-as (λ v. Src.literal c (v .0) (v .1)) (literalWords k) (λ v. rw e) at (omega arith) (literals t) k
+      (λ n. forms-is (Operator.literal c) k t n _ (kind-of c k e) ∙ simp bind-assoc) s
 
-  pub form-message : (k : ℕ) → k ≡ 5 → Reads (sendWords 14) (sends t) t at o old new a → Reads wideSrc (forms k t) t at o old new a
-  unfolding Forms
-  form-message k e s = rw e (form-send (λ m. kept (send m)) 14 5 (λ m n. refl) (λ n. simp bind-assoc) s)
+  pub form-object : (k : ℕ) → k ≡ 15 → Reads (literalWords k) (literals t) t at o old new a → Reads wideSrc (forms k t) t at o old new a
+  unfolding kindNumber
+  form-object k e s = form-literal Kind.object k e s
 
-  pub form-ask : (k : ℕ) → k ≡ 6 → Reads (sendWords 64) (sends t) t at o old new a → Reads wideSrc (forms k t) t at o old new a
-  unfolding Forms
-  form-ask k e s = rw e (form-send ask 64 6 (λ m n. refl) (λ n. simp bind-assoc) s)
+  pub form-isolate : (k : ℕ) → k ≡ 16 → Reads (literalWords k) (literals t) t at o old new a → Reads wideSrc (forms k t) t at o old new a
+  unfolding kindNumber
+  form-isolate k e s = form-literal Kind.isolate k e s
 
-  form-literal : (c : Kind) (k : ℕ) → ((n : ℕ) → forms k t n (drop at t) ≡ (literals t n (drop at t) >>= under (λ v. Src.literal c (v .0) (v .1))))
-      → Reads (literalWords (kindNumber c)) (literals t) t at o old new a → Reads wideSrc (forms k t) t at o old new a
-  unfolding literalWords wideSrc
-  form-literal c k q s =
-      form-as (λ v. Src.literal c (v .0) (v .1)) (literalWords (kindNumber c)) (λ v. refl) t at at o old new (omega arith) (literals t) k a q s
+  pub form-actor : (k : ℕ) → k ≡ 17 → Reads (literalWords k) (literals t) t at o old new a → Reads wideSrc (forms k t) t at o old new a
+  unfolding kindNumber
+  form-actor k e s = form-literal Kind.actor k e s
 
-  pub form-object : (k : ℕ) → k ≡ 13 → Reads (literalWords 15) (literals t) t at o old new a → Reads wideSrc (forms k t) t at o old new a
-  unfolding Forms
-  form-object k e s = rw e (form-literal Kind.object 13 (λ n. simp bind-assoc) s)
+  -- the forms of functions of their own
+  pub form-own : (k j : ℕ) → k ≡ j → Reads wideSrc (forms j t) t at o old new a → Reads wideSrc (forms k t) t at o old new a
+  form-own k j e s = rw e s
 
-  pub form-isolate : (k : ℕ) → k ≡ 14 → Reads (literalWords 16) (literals t) t at o old new a → Reads wideSrc (forms k t) t at o old new a
-  unfolding Forms
-  form-isolate k e s = rw e (form-literal Kind.isolate 14 (λ n. simp bind-assoc) s)
-
-  pub form-actor : (k : ℕ) → k ≡ 15 → Reads (literalWords 17) (literals t) t at o old new a → Reads wideSrc (forms k t) t at o old new a
-  unfolding Forms
-  form-actor k e s = rw e (form-literal Kind.actor 15 (λ n. simp bind-assoc) s)
-
-  pub form-let : (k : ℕ) → k ≡ 7 → Reads wideSrc (forms 7 t) t at o old new a → Reads wideSrc (forms k t) t at o old new a
-  form-let k e s = rw e s
-
-  pub form-future : (k : ℕ) → k ≡ 8 → Reads wideSrc (forms 8 t) t at o old new a → Reads wideSrc (forms k t) t at o old new a
-  form-future k e s = rw e s
-
-  pub form-fn : (k : ℕ) → k ≡ 9 → Reads wideSrc (forms 9 t) t at o old new a → Reads wideSrc (forms k t) t at o old new a
-  form-fn k e s = rw e s
-
-no-operator : (k : ℕ) → 15 < k → getElem? (shapes operators) k ≡ none
-unfolding operators
-no-operator k h = get-past (shapes operators) k (omega arith)
-
-pub form-none : (t : Bytes) (at o k : ℕ) (old new : List ℕ) → 15 < k → Reads wideSrc (forms k t) t at o old new Bad
+pub form-rest : (t : Bytes) (at o k : ℕ) (old new : List ℕ) → (rowIn k / 16 ≡ 1 → ⊥) → (rowIn k / 16 ≡ 2 → ⊥) → Unformed ownKinds k → Reads wideSrc (forms k t) t at o old new Bad
 unfolding Reads Took forms formBy
-form-none t at o k old new h n l = rw (no-operator k h, formBy)
+form-rest t at o k old new x y h n l = rw (no-operator k x y h, formBy)
 
 -- ---- words before expressions
 module _ (t : Bytes) (at o : ℕ) (old new : List ℕ) (x : Name) (s : SpacedName t at x) where
-  pub let-bad : x ≡ NoWord → Reads wideSrc (forms 7 t) t at o old new Bad
-  unfolding Reads Took forms formBy operators readForm
+  pub let-bad : x ≡ NoWord → Reads wideSrc (forms 11 t) t at o old new Bad
+  unfolding Reads Took Forms
   let-bad e n l = rw (spaced-refused t at x s e)
 
-  pub future-bad : x ≡ NoWord → Reads wideSrc (forms 8 t) t at o old new Bad
-  unfolding Reads Took forms formBy operators readForm
+  pub future-bad : x ≡ NoWord → Reads wideSrc (forms 12 t) t at o old new Bad
+  unfolding Reads Took Forms
   future-bad e n l = rw (spaced-refused t at x s e)
 
-  pub fn-bad : x ≡ NoWord → Reads wideSrc (forms 9 t) t at o old new Bad
-  unfolding Reads Took forms formBy operators readForm
+  pub fn-bad : x ≡ NoWord → Reads wideSrc (forms 65 t) t at o old new Bad
+  unfolding Reads Took Forms
   fn-bad e n l = rw (spaced-refused t at x s e)
 
   module _ (y i : ℕ) (e : x ≡ Word y i) where
-    pub let-done : (w : ℕ) (a : Step) → w ≡ wide 11 y → Reads (twoWords w) (twos t) t i o old new a → Reads wideSrc (forms 7 t) t at o old new a
+    pub let-done : (w : ℕ) (a : Step) → w ≡ wide 11 y → Follow w 2 t i (o + 1) old o new a → Reads wideSrc (forms 11 t) t at o old new a
     unfolding Forms
     let-done w a h u =
         let r = spaced-read t at x s y i e in
-        form-as (λ v. Src.letIn y (v .0) (v .1)) (twoWords w) (λ v. rw h) t at i o old new (omega arith) (twos t) 7 a (λ n. rw (r .is) (simp bind-assoc)) u
+        form-as t at o old new a (λ v. Src.letIn y (v .0) (v .1 .0)) (headWords w 2)
+        (λ v. rw h (ap (λ z. wide 11 y ∷ (wideSrc (v .0) ++ z)) (sym (append-nil (wideSrc (v .1 .0))))))
+        i (omega arith) (parts 2 t) 11 (λ n. rw (r .is) (simp bind-assoc)) (whole t i o w 2 old new a u)
 
-    pub fn-done : (w : ℕ) (a : Step) → w ≡ wide 65 y → Reads (oneWords w) (ones t) t i o old new a → Reads wideSrc (forms 9 t) t at o old new a
+    pub fn-done : (w : ℕ) (a : Step) → w ≡ wide 65 y → Reads (oneWords w) (ones t) t i o old new a → Reads wideSrc (forms 65 t) t at o old new a
     unfolding Forms
     fn-done w a h u =
         let r = spaced-read t at x s y i e in
-        form-as (Src.fn y) (oneWords w) (λ v. rw h) t at i o old new (omega arith) (ones t) 9 a (λ n. rw (r .is) (simp bind-assoc)) u
+        form-as t at o old new a (Src.fn y) (oneWords w) (λ v. rw h) i (omega arith) (ones t) 65 (λ n. rw (r .is) (simp bind-assoc)) u
 
     module _ (v : Name) (q : SpacedName t i v) where
-      pub future-later-bad : v ≡ NoWord → Reads wideSrc (forms 8 t) t at o old new Bad
-      unfolding Reads Took forms formBy operators readForm
+      pub future-later-bad : v ≡ NoWord → Reads wideSrc (forms 12 t) t at o old new Bad
+      unfolding Reads Took Forms
       future-later-bad d n l = let r = spaced-read t at x s y i e in rw (r .is) (rw (spaced-refused t i v q d))
 
       pub future-done : (w z j : ℕ) (a : Step) → v ≡ Word z j → w ≡ wide 12 (pair y z) → Reads (oneWords w) (ones t) t j o old new a
-          → Reads wideSrc (forms 8 t) t at o old new a
+          → Reads wideSrc (forms 12 t) t at o old new a
       unfolding Forms
       future-done w z j a d h u =
           let r = spaced-read t at x s y i e in
           let r′ = spaced-read t i v q z j d in
-          form-as (Src.future y z) (oneWords w) (λ v. rw h) t at j o old new (omega arith) (ones t) 8 a (λ n. rw (r .is) (rw (r′ .is) (simp bind-assoc))) u
-
--- none of the sixteen
-past-one : (k i : ℕ) → i ≤ k → (k ≡ i → ⊥) → suc i ≤ k
-past-one k i h n = go (eqb k i) refl
-  where
-    go : (b : Bool) → eqb k i ≡ b → suc i ≤ k
-    go true e = absurd (n (eqb-true k i e))
-    go false e = let z = eqb-false k i e in omega arith
-
-pub form-rest : (t : Bytes) (at o k : ℕ) (old new : List ℕ) → ((((((((((((((((Unit {0} × (k ≡ 0 → ⊥)) × (k ≡ 1 → ⊥)) × (k ≡ 2 → ⊥)) × (k ≡ 3 → ⊥)) × (k ≡ 4 → ⊥)) × (k ≡ 5 → ⊥)) × (k ≡ 6 → ⊥)) × (k ≡ 7 → ⊥)) × (k ≡ 8 → ⊥)) × (k ≡ 9 → ⊥)) × (k ≡ 10 → ⊥)) × (k ≡ 11 → ⊥)) × (k ≡ 12 → ⊥)) × (k ≡ 13 → ⊥)) × (k ≡ 14 → ⊥)) × (k ≡ 15 → ⊥)) → Reads wideSrc (forms k t) t at o old new Bad
-form-rest t at o k old new h = form-none t at o k old new (past-one k 15 (past-one k 14 (past-one k 13 (past-one k 12 (past-one k 11 (past-one k 10 (past-one k 9 (past-one k 8 (past-one k 7 (past-one k 6 (past-one k 5 (past-one k 4 (past-one k 3 (past-one k 2 (past-one k 1 (past-one k 0 (omega arith) (h .0 .0 .0 .0 .0 .0 .0 .0 .0 .0 .0 .0 .0 .0 .0 .1)) (h .0 .0 .0 .0 .0 .0 .0 .0 .0 .0 .0 .0 .0 .0 .1)) (h .0 .0 .0 .0 .0 .0 .0 .0 .0 .0 .0 .0 .0 .1)) (h .0 .0 .0 .0 .0 .0 .0 .0 .0 .0 .0 .0 .1)) (h .0 .0 .0 .0 .0 .0 .0 .0 .0 .0 .0 .1)) (h .0 .0 .0 .0 .0 .0 .0 .0 .0 .0 .1)) (h .0 .0 .0 .0 .0 .0 .0 .0 .0 .1)) (h .0 .0 .0 .0 .0 .0 .0 .0 .1)) (h .0 .0 .0 .0 .0 .0 .0 .1)) (h .0 .0 .0 .0 .0 .0 .1)) (h .0 .0 .0 .0 .0 .1)) (h .0 .0 .0 .0 .1)) (h .0 .0 .0 .1)) (h .0 .0 .1)) (h .0 .1)) (h .1))
+          form-as t at o old new a (Src.future y z) (oneWords w) (λ v. rw h) j (omega arith) (ones t) 12 (λ n. rw (r .is) (rw (r′ .is) (simp bind-assoc))) u

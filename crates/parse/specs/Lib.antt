@@ -1,17 +1,18 @@
 -- what the functions answer
 pub mod Atoms
 pub mod Headers
+pub mod Operators
 pub mod Steps
 -- laws, one for each way to return
 pub mod NumberLaws
 pub mod NameLaws
 pub mod AtomLaws
 pub mod StepLaws
+pub mod PartLaws
 pub mod FormLaws
 pub mod ArgumentLaws
 pub mod LiteralLaws
 pub mod MethodLaws
-pub mod PartLaws
 pub mod Cycle
 -- lines and the whole text
 pub mod Lines

@@ -12,16 +12,16 @@ use Rattle.atlite.specs.Base.{Result, done, refused, _>>=_}
 use Rattle.atlite.specs.Lexicon.{Bytes, dictionary}
 use Rattle.atlite.specs.Script.{Src}
 use Rattle.atlite.specs.Keywords.{operators}
-use Rattle.atlite.specs.Reader.{Reading, eat, spaced, spacedWord, readExpr}
-use Rattle.words.specs.Wide.{wide, wideSrc}
+use Rattle.atlite.specs.Reader.{Reading, spaced, readExpr}
+use Rattle.words.specs.Wide.{wideSrc}
 use Rattle.scan.specs.Runs.{Run, Starts}
 use Rattle.parse.specs.declared.names.Name.{Name}
 use Rattle.parse.specs.declared.names.Name.the-variants.{Word, NoWord}
 use Rattle.parse.specs.declared.scratch.Step.{Step}
 use Rattle.parse.specs.declared.scratch.Step.the-variants.{Done, Bad}
-use Rattle.parse.specs.Atoms.{NameRead, Named, NameOf, SpacedName}
-use Rattle.parse.specs.NameLaws.{eat-starts, eat-not, starts-room, spaced-read, spaced-refused}
-use Rattle.parse.specs.Steps.{Place, Read, Took, Reads, Closed, spaceds, exprs, readOne, ones, oneWords, readPair, twos, twoWords, readGet, gets, getWords, readMid, mids, midWords, readSend, sends, sendWords}
+use Rattle.parse.specs.Atoms.{Named, NameOf, SpacedName}
+use Rattle.parse.specs.NameLaws.{eat-starts, eat-not, starts-room, spaced-refused}
+use Rattle.parse.specs.Steps.{Place, Read, Took, Reads, spaceds, exprs, readMid, mids, midWords, readSend, sends, sendWords}
 
 -- ---- writes
 set-before : (xs l : List ℕ) (i k h : ℕ) → i < k → set (sets l k xs) i h ≡ sets (set l i h) k xs
@@ -114,24 +114,32 @@ module _ (A : Type 0) (enc : A → List ℕ) (t : Bytes) (at o : ℕ) (old new :
       record { value = r .value; is = e ∙ r .is; far = omega arith; within = r .within; wrote = r .wrote; ends = r .ends; short = omega arith }
   shift b R Q Bad l e r = e ∙ r
 
-  -- the closing bracket behind the words xs
-  pub finish : (mid xs : List ℕ) (v : A) (w j q : ℕ) (Q : Result (A × Bytes)) (a : Step) → Q ≡ (_>>=_ {B = A × Bytes} (eat 41 (drop j t)) (λ i. done (v, i)))
-      → enc v ≡ w ∷ xs → mid ≡ sets old (o + 1) xs → q ≡ o + 1 + length xs → q + at ≤ o + 1 + j → at ≤ j
-      → Closed t j mid o w q new a → Took enc t at o old new Q a
-  unfolding Took Closed
-  finish mid xs v w j q Q (Done i p) e c m l s f r =
-      let n = r .next in
-      let d = r .ends in
-      record {
-        value = v;
-        is = e ∙ rw (r .is);
-        far = omega arith;
-        within = r .within;
-        wrote = r .wrote ∙ rw (m, c) (headed xs old o w);
-        ends = rw c (omega arith);
-        short = omega arith;
-      }
-  finish mid xs v w j q Q Bad e c m l s f r = e ∙ rw r
+pub bind-assoc : {A B C : Type 0} (x : Result A) (f : A → Result B) (g : B → Result C) → _>>=_ (_>>=_ x f) g ≡ _>>=_ x (λ a. _>>=_ (f a) g)
+bind-assoc (done a) f g = refl
+bind-assoc (refused n) f g = refl
+
+-- the same words of another value
+module _ {A B : Type 0} (f : A → B) where
+  abbrev pub under : A × Bytes → Result (B × Bytes)
+  under r = done (f (r .0), r .1)
+
+  module _ (enc : A → List ℕ) (words : B → List ℕ) (h : (v : A) → words (f v) ≡ enc v) (t : Bytes) (at b o : ℕ) (old new : List ℕ) (l : at ≤ b) where
+    pub took-under : (R : Result (A × Bytes)) (Q : Result (B × Bytes)) (a : Step) → Q ≡ (R >>= under) → Took enc t b o old new R a
+        → Took words t at o old new Q a
+    unfolding Took
+    took-under R Q (Done i p) q r =
+        let far = r .far in
+        let short = r .short in
+        record {
+          value = f (r .value);
+          is = q ∙ rw (r .is);
+          far = omega arith;
+          within = r .within;
+          wrote = rw (h (r .value)) (r .wrote);
+          ends = rw (h (r .value)) (r .ends);
+          short = omega arith;
+        }
+    took-under R Q Bad q r = q ∙ rw r
 
 -- ---- the closing bracket
 module _ (t : Bytes) (at : ℕ) (old new : List ℕ) (o w p : ℕ) (r : Bool) (s : Starts t at (41 ∷ []) r) where
@@ -155,7 +163,7 @@ module _ (t : Bytes) (at o : ℕ) (old new : List ℕ) (r : Bool) (s : Starts t 
   unfolding Reads Took spaceds spaced
   spaced-not k n l = rw (eat-not t at 32 r s k)
 
--- ---- one expression, and two
+-- ---- behind an expression
 unfoldable pub Spaced : Bytes → ℕ → ℕ → ℕ → List ℕ → List ℕ → ℕ → ℕ → Type 0
 Spaced t n at o old new i p = Read wideSrc t at o old new (spaced (readExpr operators n (dictionary t)) (drop at t)) i p
 
@@ -169,62 +177,20 @@ module _ (t : Bytes) (at o : ℕ) (old m₁ new : List ℕ) (a : Step) (s : Read
     unfolding Reads Took spaceds
     first-bad e = rw e at (s n l)
 
-  one-core : (n w i p : ℕ) (r : Step) → Spaced t n at (o + 1) old m₁ i p → Closed t i m₁ o w p new r
-      → Took (oneWords w) t at o old new (ones t n (drop at t)) r
-  unfolding ones readOne oneWords Spaced
-  one-core n w i p r x c =
-      let b = x .short in
-      let f = x .far in
-      finish Src (oneWords w) t at o old new m₁ (wideSrc (x .value)) (x .value) w i p _ r (rw (x .is)) refl (x .wrote) (x .ends) (omega arith) (omega arith) c
-
-  pub one-done : (w i p : ℕ) (r : Step) → a ≡ Done i p → Closed t i m₁ o w p new r → Reads (oneWords w) (ones t) t at o old new r
-  unfolding Reads
-  one-done w i p r e c n l = one-core n w i p r (first n l i p e) c
-
-  pub one-bad : (w : ℕ) → a ≡ Bad → Reads (oneWords w) (ones t) t at o old new Bad
-  unfolding Reads Took ones readOne
-  one-bad w e n l = rw (first-bad n l e)
-
   module _ (i p : ℕ) (e : a ≡ Done i p) where
     -- a word
     module _ (x : Name) (v : SpacedName t i x) where
-      get-core : (n w y j : ℕ) (r : Step) → Spaced t n at (o + 1) old m₁ i p → NameRead (spacedWord (dictionary t) (drop i t)) t i y j → w ≡ wide 9 y → Closed t j m₁ o w p new r
-          → Took getWords t at o old new (gets t n (drop at t)) r
-      unfolding gets readGet getWords Spaced
-      get-core n w y j r z k h c =
-          let b = z .short in
-          let f = z .far in
-          let g = k .far in
-          finish (Src × ℕ) getWords t at o old new m₁ (wideSrc (z .value)) (z .value, y) w j p _ r (rw (z .is) (rw (k .is))) (rw h) (z .wrote) (z .ends)
-          (omega arith) (omega arith) c
-
-      pub get-done : (w y j : ℕ) (r : Step) → x ≡ Word y j → w ≡ wide 9 y → Closed t j m₁ o w p new r → Reads getWords (gets t) t at o old new r
-      unfolding Reads
-      get-done w y j r d h c n l = get-core n w y j r (first n l i p e) (spaced-read t i x v y j d) h c
-
-      pub get-bad : x ≡ NoWord → Reads getWords (gets t) t at o old new Bad
-      unfolding Reads Took gets readGet Spaced
-      get-bad d n l = let z = first n l i p e in rw (z .is) (rw (spaced-refused t i x v d))
-
-      pub mid-word-bad : (k : ℕ) → x ≡ NoWord → Reads (midWords k) (mids t) t at o old new Bad
+      pub mid-word-bad : (k h : ℕ) → x ≡ NoWord → Reads (midWords k h) (mids h t) t at o old new Bad
       unfolding Reads Took mids readMid Spaced
-      mid-word-bad k d n l = let z = first n l i p e in rw (z .is) (rw (spaced-refused t i x v d))
+      mid-word-bad k h d n l = let z = first n l i p e in rw (z .is) (rw (spaced-refused t i x v d))
 
       pub send-word-bad : (k : ℕ) → x ≡ NoWord → Reads (sendWords k) (sends t) t at o old new Bad
       unfolding Reads Took sends readSend Spaced
       send-word-bad k d n l = let z = first n l i p e in rw (z .is) (rw (spaced-refused t i x v d))
 
-  pub two-first-bad : (w : ℕ) → a ≡ Bad → Reads (twoWords w) (twos t) t at o old new Bad
-  unfolding Reads Took twos readPair
-  two-first-bad w e n l = rw (first-bad n l e)
-
-  pub get-first-bad : a ≡ Bad → Reads getWords (gets t) t at o old new Bad
-  unfolding Reads Took gets readGet
-  get-first-bad e n l = rw (first-bad n l e)
-
-  pub mid-first-bad : (k : ℕ) → a ≡ Bad → Reads (midWords k) (mids t) t at o old new Bad
+  pub mid-first-bad : (k h : ℕ) → a ≡ Bad → Reads (midWords k h) (mids h t) t at o old new Bad
   unfolding Reads Took mids readMid
-  mid-first-bad k e n l = rw (first-bad n l e)
+  mid-first-bad k h e n l = rw (first-bad n l e)
 
   pub send-first-bad : (k : ℕ) → a ≡ Bad → Reads (sendWords k) (sends t) t at o old new Bad
   unfolding Reads Took sends readSend

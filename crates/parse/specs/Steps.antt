@@ -1,19 +1,20 @@
 -- What the functions of the descent answer: the same as the reader does of the text behind the position, with the wide words of
 -- what was read written in their place. The reader's fuel is any number above what is left of the text. Assumes nothing.
 use mathlib.Core.Path.{_≡_}
-use mathlib.Core.List.{List, _∷_, _++_, map}
+use mathlib.Core.List.{List, [], _∷_, _++_}
 use mathlib.Core.Option.{none, some}
-use Prim.Native.Nat.{ℕ, _+_, _-_, _*_, _≤_, _<_}
-use lib.ListN.{length, drop, set, getElem?}
+use Prim.Native.Nat.{ℕ, zero, suc, _+_, _-_, _*_, _≤_, _<_}
+use lib.ListN.{length, drop, set}
 use lib.Seq.{sets}
 use Rattle.atlite.specs.Base.{Result, done, refused, _>>=_, orRefuse}
 use Rattle.atlite.specs.Lexicon.{Bytes, close, dictionary}
 use Rattle.atlite.specs.Script.{Src, Srcs, SrcFields, SrcMethods, countSrcs}
 use Rattle.atlite.specs.Table.{countFields, countMethods}
-use Rattle.atlite.specs.Reader.{Reading, operator, item, eat, readWord, spaced, spacedWord, readItems, readFields, readMethods, readForm, readExpr}
+use Rattle.atlite.specs.Reader.{Reading, spelled, item, eat, readWord, spaced, spacedWord, readItems, readFields, readMethods, readForm, readExpr}
 use Rattle.atlite.specs.Keywords.{operators}
 use Rattle.words.specs.Wide.{wide, pair, wideSrc, wideSrcs, wideFields, wideMethods}
 use Rattle.parse.specs.Headers.{readHeader}
+use Rattle.parse.specs.Operators.{operatorOf}
 use Rattle.parse.specs.declared.scratch.Step.{Step}
 use Rattle.parse.specs.declared.scratch.Step.the-variants.{Done, Bad}
 use Rattle.parse.specs.declared.scratch.Listed.{Listed}
@@ -74,48 +75,41 @@ ones t n i = readOne (readExpr operators n (dictionary t)) i
 unfoldable pub oneWords : ℕ → Src → List ℕ
 oneWords w e = w ∷ wideSrc e
 
--- two
-unfoldable pub readPair : Reading Src → Reading (Src × Src)
-readPair R i = do
+-- n expressions, then the closing bracket; their words
+abbrev pub Parts : ℕ → Type 0
+Parts zero = Unit {0}
+Parts (suc n) = Src × Parts n
+
+unfoldable pub readParts : (n : ℕ) → Reading Src → Reading (Parts n)
+readParts zero R i = eat close i >>= λ j. done (tt, j)
+readParts (suc n) R i = do
   (e, i₁) ← spaced R i
-  (d, i₂) ← spaced R i₁
-  i₃ ← eat close i₂
-  done ((e, d), i₃)
+  (v, i₂) ← readParts n R i₁
+  done ((e, v), i₂)
 
-unfoldable pub twos : Bytes → ℕ → Reading (Src × Src)
-twos t n i = readPair (readExpr operators n (dictionary t)) i
+unfoldable pub parts : (k : ℕ) → Bytes → ℕ → Reading (Parts k)
+parts k t n i = readParts k (readExpr operators n (dictionary t)) i
 
-unfoldable pub twoWords : ℕ → Src × Src → List ℕ
-twoWords w v = w ∷ (wideSrc (v .0) ++ wideSrc (v .1))
+unfoldable pub partWords : (n : ℕ) → Parts n → List ℕ
+partWords zero v = []
+partWords (suc n) v = wideSrc (v .0) ++ partWords n (v .1)
 
--- an expression and a word
-unfoldable pub readGet : List Bytes → Reading Src → Reading (Src × ℕ)
-readGet ws R i = do
-  (e, i₁) ← spaced R i
-  (f, i₂) ← spacedWord ws i₁
-  i₃ ← eat close i₂
-  done ((e, f), i₃)
+unfoldable pub headWords : (w n : ℕ) → Parts n → List ℕ
+headWords w n v = w ∷ partWords n v
 
-unfoldable pub gets : Bytes → ℕ → Reading (Src × ℕ)
-gets t n i = readGet (dictionary t) (readExpr operators n (dictionary t)) i
-
-unfoldable pub getWords : Src × ℕ → List ℕ
-getWords v = wide 9 (v .1) ∷ wideSrc (v .0)
-
--- an expression, a word and an expression
-unfoldable pub readMid : List Bytes → Reading Src → Reading (Src × ℕ × Src)
-readMid ws R i = do
+-- an expression, a word and n expressions
+unfoldable pub readMid : (n : ℕ) → List Bytes → Reading Src → Reading (Src × ℕ × Parts n)
+readMid n ws R i = do
   (e, i₁) ← spaced R i
   (x, i₂) ← spacedWord ws i₁
-  (d, i₃) ← spaced R i₂
-  i₄ ← eat close i₃
-  done ((e, x, d), i₄)
+  (v, i₃) ← readParts n R i₂
+  done ((e, x, v), i₃)
 
-unfoldable pub mids : Bytes → ℕ → Reading (Src × ℕ × Src)
-mids t n i = readMid (dictionary t) (readExpr operators n (dictionary t)) i
+unfoldable pub mids : (k : ℕ) → Bytes → ℕ → Reading (Src × ℕ × Parts k)
+mids k t n i = readMid k (dictionary t) (readExpr operators n (dictionary t)) i
 
-unfoldable pub midWords : ℕ → Src × ℕ × Src → List ℕ
-midWords k v = wide k (v .1) ∷ (wideSrc (v .0) ++ wideSrc (v .2))
+unfoldable pub midWords : (k n : ℕ) → Src × ℕ × Parts n → List ℕ
+midWords k n v = wide k (v .1) ∷ (wideSrc (v .0) ++ partWords n (v .2))
 
 -- an expression, a word and arguments
 unfoldable pub readArgs : Reading Src → Reading Srcs
@@ -134,9 +128,9 @@ sends t n i = readSend (dictionary t) (readExpr operators n (dictionary t)) i
 unfoldable pub sendWords : ℕ → Src × ℕ × Srcs → List ℕ
 sendWords k v = wide k (pair (v .1) (countSrcs (v .2))) ∷ (wideSrc (v .0) ++ wideSrcs (v .2))
 
--- what stands behind the operator with the number k
+-- what stands behind the word of the operator of kind k
 unfoldable pub formBy : ℕ → List Bytes → Reading Src → Reading Src
-formBy k ws R i = elim (getElem? (map (λ r. r .1) operators) k) [ none ↦ refused 2 | some o ↦ readForm o ws R i ]
+formBy k ws R i = elim (operatorOf operators k) [ none ↦ refused 2 | some o ↦ readForm o ws R i ]
 
 unfoldable pub forms : ℕ → Bytes → ℕ → Reading Src
 forms k t n i = formBy k (dictionary t) (readExpr operators n (dictionary t)) i
@@ -202,7 +196,7 @@ methodAt b t n i = do
   (ms, i₃) ← readMethods (dictionary t) (readExpr operators n (dictionary t)) (4 - (b + 1)) i₂
   done (SrcMethods.method (v .0) (v .1) e ms, i₃)
 
--- the last expression of a form, or its arguments, with the head word w at o and the words of the part at p
+-- the last expressions of a form, or its arguments, with the head word w at o and the words of the part at p
 pub record PartRead {A : Type 0} (s : ℕ) (enc : A → List ℕ) (head : A → ℕ) (t : Bytes) (at p : ℕ) (old : List ℕ) (o : ℕ) (new : List ℕ) (R : Result (A × Bytes)) (i q : ℕ) : Type 0 where
   pub value : A
   pub is : R ≡ done (value, drop i t)
@@ -216,8 +210,9 @@ unfoldable pub TookPart : {A : Type 0} → ℕ → (A → List ℕ) → (A → �
 TookPart s enc head t at p old o new R (Done i q) = PartRead s enc head t at p old o new R i q
 TookPart s enc head t at p old o new R Bad = R ≡ refused 2
 
-unfoldable pub Lasts : ℕ → Bytes → ℕ → ℕ → List ℕ → ℕ → List ℕ → Step → Type 0
-Lasts w t at p old o new r = (n : ℕ) → length t - at < n → TookPart 1 wideSrc (λ e. w) t at p old o new (readOne (readExpr operators n (dictionary t)) (drop at t)) r
+-- k expressions and the closing bracket
+unfoldable pub Follow : ℕ → ℕ → Bytes → ℕ → ℕ → List ℕ → ℕ → List ℕ → Step → Type 0
+Follow w k t at p old o new r = (n : ℕ) → length t - at < n → TookPart 1 (partWords k) (λ v. w) t at p old o new (parts k t n (drop at t)) r
 
 unfoldable pub Argued : ℕ → ℕ → Bytes → ℕ → ℕ → List ℕ → ℕ → List ℕ → Step → Type 0
 Argued k m t at p old o new r =

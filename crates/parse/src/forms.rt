@@ -5,7 +5,7 @@ ghost use Prim.Native.Nat.{_+_, _<_};
 ghost use lib.ListN.{length};
 ghost use Rattle.words.specs.Wide.{wideSrc};
 ghost use Rattle.parse.specs.Atoms.{Ready};
-ghost use Rattle.parse.specs.Steps.{Place, Lasts, Reads, exprs, spaceds, ones, oneWords, twos, twoWords, gets, getWords, mids, midWords, brackets, forms};
+ghost use Rattle.parse.specs.Steps.{Place, Follow, Reads, exprs, spaceds, ones, oneWords, mids, midWords, brackets, forms};
 
 mod literals;
 mod messages;
@@ -76,7 +76,7 @@ fn bracket(
     form(text, end, low, high, count, out, o, k)
 }
 
-// The form of the operator with the number `k`.
+// The form of the operator of kind `k`.
 fn form(
     text: &[u8],
     at: usize,
@@ -85,29 +85,59 @@ fn form(
     count: usize,
     out: &mut [u64],
     o: usize,
-    k: usize,
+    k: u8,
 ) -> Step
     requires { ⌜ Ready (now text) (now low) (now high) count × Place (now text) at (o + 1) × (length (now out) ≡ 4096) ⌝ }
     ensures { λ r. ⌜ Reads wideSrc (forms k (now (text .entry))) (now (text .entry)) at o (now (out .entry)) (now (out .exit)) r ⌝ }
 {
+    let named = layout::kinds::operator(k as u32);
+    let n = layout::kinds::operands(k as u32);
+    if named == 1 {
+        return parts(text, at, low, high, count, out, o, o + 1, k as u64, n);
+    }
+    if named == 2 {
+        return between(text, at, low, high, count, out, o, k, n - 1);
+    }
     match k {
-        0 => two(text, at, low, high, count, out, o, 7),
-        1 => two(text, at, low, high, count, out, o, 8),
-        2 => get(text, at, low, high, count, out, o),
-        3 => between(text, at, low, high, count, out, o, 10),
-        4 => message(text, at, low, high, count, out, o, 13),
-        5 => message(text, at, low, high, count, out, o, 14),
-        6 => message(text, at, low, high, count, out, o, 64),
-        7 => let_in(text, at, low, high, count, out, o),
-        8 => future(text, at, low, high, count, out, o),
-        9 => func(text, at, low, high, count, out, o),
-        10 => two(text, at, low, high, count, out, o, 66),
-        11 => between(text, at, low, high, count, out, o, 67),
-        12 => two(text, at, low, high, count, out, o, 68),
-        13 => literal(text, at, low, high, count, out, o, 15),
-        14 => literal(text, at, low, high, count, out, o, 16),
-        15 => literal(text, at, low, high, count, out, o, 17),
+        11 => let_in(text, at, low, high, count, out, o),
+        12 => future(text, at, low, high, count, out, o),
+        13 => message(text, at, low, high, count, out, o, k),
+        14 => message(text, at, low, high, count, out, o, k),
+        15 => literal(text, at, low, high, count, out, o, k),
+        16 => literal(text, at, low, high, count, out, o, k),
+        17 => literal(text, at, low, high, count, out, o, k),
+        64 => message(text, at, low, high, count, out, o, k),
+        65 => func(text, at, low, high, count, out, o),
+        66 => parts(text, at, low, high, count, out, o, o + 1, k as u64, 2),
+        67 => between(text, at, low, high, count, out, o, k, 1),
+        68 => parts(text, at, low, high, count, out, o, o + 1, k as u64, 2),
         _ => Step::Bad,
+    }
+}
+
+// `n` expressions and the closing bracket, with the expressions' words at `p` and the place of the head word `w` at `o`.
+fn parts(
+    text: &[u8],
+    at: usize,
+    low: &[u64],
+    high: &[u32],
+    count: usize,
+    out: &mut [u64],
+    o: usize,
+    p: usize,
+    w: u64,
+    n: u32,
+) -> Step
+    requires { ⌜ Ready (now text) (now low) (now high) count × Place (now text) at p × (length (now out) ≡ 4096) × (o < 4096) ⌝ }
+    ensures { λ r. ⌜ Follow w n (now (text .entry)) at p (now (out .entry)) o (now (out .exit)) r ⌝ }
+{
+    if n == 0 {
+        return close(text, at, out, o, w, p);
+    }
+    let a = spaced(text, at, low, high, count, out, p);
+    match a {
+        Step::Done(i, q) => parts(text, i, low, high, count, out, o, q, w, n - 1),
+        Step::Bad => Step::Bad,
     }
 }
 
@@ -125,83 +155,10 @@ pub fn one(
     requires { ⌜ Ready (now text) (now low) (now high) count × Place (now text) at (o + 1) × (length (now out) ≡ 4096) ⌝ }
     ensures { λ r. ⌜ Reads (oneWords w) (ones (now (text .entry))) (now (text .entry)) at o (now (out .entry)) (now (out .exit)) r ⌝ }
 {
-    let a = spaced(text, at, low, high, count, out, o + 1);
-    match a {
-        Step::Done(i, p) => close(text, i, out, o, w, p),
-        Step::Bad => Step::Bad,
-    }
+    parts(text, at, low, high, count, out, o, o + 1, w, 1)
 }
 
-// Two expressions.
-fn two(
-    text: &[u8],
-    at: usize,
-    low: &[u64],
-    high: &[u32],
-    count: usize,
-    out: &mut [u64],
-    o: usize,
-    w: u64,
-) -> Step
-    requires { ⌜ Ready (now text) (now low) (now high) count × Place (now text) at (o + 1) × (length (now out) ≡ 4096) ⌝ }
-    ensures { λ r. ⌜ Reads (twoWords w) (twos (now (text .entry))) (now (text .entry)) at o (now (out .entry)) (now (out .exit)) r ⌝ }
-{
-    let a = spaced(text, at, low, high, count, out, o + 1);
-    match a {
-        Step::Done(i, p) => last(text, i, low, high, count, out, o, p, w),
-        Step::Bad => Step::Bad,
-    }
-}
-
-// The last expression of a form, with its words at `p` and the head word's place at `o`.
-fn last(
-    text: &[u8],
-    at: usize,
-    low: &[u64],
-    high: &[u32],
-    count: usize,
-    out: &mut [u64],
-    o: usize,
-    p: usize,
-    w: u64,
-) -> Step
-    requires { ⌜ Ready (now text) (now low) (now high) count × Place (now text) at p × (length (now out) ≡ 4096) × (o < 4096) ⌝ }
-    ensures { λ r. ⌜ Lasts w (now (text .entry)) at p (now (out .entry)) o (now (out .exit)) r ⌝ }
-{
-    let a = spaced(text, at, low, high, count, out, p);
-    match a {
-        Step::Done(i, q) => close(text, i, out, o, w, q),
-        Step::Bad => Step::Bad,
-    }
-}
-
-// An expression and a word.
-fn get(
-    text: &[u8],
-    at: usize,
-    low: &[u64],
-    high: &[u32],
-    count: usize,
-    out: &mut [u64],
-    o: usize,
-) -> Step
-    requires { ⌜ Ready (now text) (now low) (now high) count × Place (now text) at (o + 1) × (length (now out) ≡ 4096) ⌝ }
-    ensures { λ r. ⌜ Reads getWords (gets (now (text .entry))) (now (text .entry)) at o (now (out .entry)) (now (out .exit)) r ⌝ }
-{
-    let a = spaced(text, at, low, high, count, out, o + 1);
-    match a {
-        Step::Done(i, p) => {
-            let x = spaced_word(text, i, low, high, count);
-            match x {
-                Name::Word(f, j) => close(text, j, out, o, head(9, f), p),
-                Name::NoWord => Step::Bad,
-            }
-        }
-        Step::Bad => Step::Bad,
-    }
-}
-
-// An expression, a word and an expression.
+// An expression, a word and `n` expressions.
 fn between(
     text: &[u8],
     at: usize,
@@ -211,16 +168,17 @@ fn between(
     out: &mut [u64],
     o: usize,
     k: u8,
+    n: u32,
 ) -> Step
     requires { ⌜ Ready (now text) (now low) (now high) count × Place (now text) at (o + 1) × (length (now out) ≡ 4096) ⌝ }
-    ensures { λ r. ⌜ Reads (midWords k) (mids (now (text .entry))) (now (text .entry)) at o (now (out .entry)) (now (out .exit)) r ⌝ }
+    ensures { λ r. ⌜ Reads (midWords k n) (mids n (now (text .entry))) (now (text .entry)) at o (now (out .entry)) (now (out .exit)) r ⌝ }
 {
     let a = spaced(text, at, low, high, count, out, o + 1);
     match a {
         Step::Done(i, p) => {
             let x = spaced_word(text, i, low, high, count);
             match x {
-                Name::Word(y, j) => last(text, j, low, high, count, out, o, p, head(k, y)),
+                Name::Word(y, j) => parts(text, j, low, high, count, out, o, p, head(k, y), n),
                 Name::NoWord => Step::Bad,
             }
         }
@@ -239,11 +197,11 @@ fn let_in(
     o: usize,
 ) -> Step
     requires { ⌜ Ready (now text) (now low) (now high) count × Place (now text) at (o + 1) × (length (now out) ≡ 4096) ⌝ }
-    ensures { λ r. ⌜ Reads wideSrc (forms 7 (now (text .entry))) (now (text .entry)) at o (now (out .entry)) (now (out .exit)) r ⌝ }
+    ensures { λ r. ⌜ Reads wideSrc (forms 11 (now (text .entry))) (now (text .entry)) at o (now (out .entry)) (now (out .exit)) r ⌝ }
 {
     let x = spaced_word(text, at, low, high, count);
     match x {
-        Name::Word(y, i) => two(text, i, low, high, count, out, o, head(11, y)),
+        Name::Word(y, i) => parts(text, i, low, high, count, out, o, o + 1, head(11, y), 2),
         Name::NoWord => Step::Bad,
     }
 }
@@ -259,7 +217,7 @@ fn future(
     o: usize,
 ) -> Step
     requires { ⌜ Ready (now text) (now low) (now high) count × Place (now text) at (o + 1) × (length (now out) ≡ 4096) ⌝ }
-    ensures { λ r. ⌜ Reads wideSrc (forms 8 (now (text .entry))) (now (text .entry)) at o (now (out .entry)) (now (out .exit)) r ⌝ }
+    ensures { λ r. ⌜ Reads wideSrc (forms 12 (now (text .entry))) (now (text .entry)) at o (now (out .entry)) (now (out .exit)) r ⌝ }
 {
     let x = spaced_word(text, at, low, high, count);
     match x {
@@ -285,7 +243,7 @@ fn func(
     o: usize,
 ) -> Step
     requires { ⌜ Ready (now text) (now low) (now high) count × Place (now text) at (o + 1) × (length (now out) ≡ 4096) ⌝ }
-    ensures { λ r. ⌜ Reads wideSrc (forms 9 (now (text .entry))) (now (text .entry)) at o (now (out .entry)) (now (out .exit)) r ⌝ }
+    ensures { λ r. ⌜ Reads wideSrc (forms 65 (now (text .entry))) (now (text .entry)) at o (now (out .entry)) (now (out .exit)) r ⌝ }
 {
     let x = spaced_word(text, at, low, high, count);
     match x {

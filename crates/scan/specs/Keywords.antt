@@ -108,7 +108,7 @@ unfolding absent
 absent-zero k [] h = not-so (eqb k 0) h
 absent-zero k (r ∷ rs) h = absent-zero k rs (and₂ (not (eqb k (r .1))) (absent k rs) h .1)
 
-keywords-distinct : distinct keywords ≡ true
+pub keywords-distinct : distinct keywords ≡ true
 unfolding distinct absent Words
 keywords-distinct = refl
 

@@ -1,6 +1,7 @@
 -- The descent: what is left of the text falls, and each way to return has its law. Assumes nothing.
+use native.Mathlib.Omega.{arith}
 use borrow.Author.Needs.{needs}
-use Rattle.parse.specs.Cycle.{args-back, args-fall, args-misc, args-place, arguments-back, arguments-misc, arguments-place, between-back, between-fall, between-misc, between-place, bodies-back, bodies-misc, bodies-place, bracket-back, bracket-misc, bracket-place, expr-back, expr-fall, expr-misc, expr-place, field-back, field-fall, field-misc, field-place, fields-back, fields-fall, fields-misc, fields-place, form-back, form-misc, form-place, func-back, func-fall, func-misc, func-place, future-back, future-fall, future-misc, future-place, get-back, get-misc, get-place, last-back, last-misc, last-place, let-in-back, let-in-fall, let-in-misc, let-in-place, literal-back, literal-fall, literal-misc, literal-place, message-back, message-fall, message-misc, message-place, method-back, method-fall, method-misc, method-place, methods-back, methods-fall, methods-misc, methods-place, one-back, one-misc, one-place, spaced-back, spaced-misc, spaced-place, two-back, two-fall, two-misc, two-place}
+use Rattle.parse.specs.Cycle.{args-back, args-fall, args-misc, args-place, arguments-back, arguments-misc, arguments-place, between-back, between-fall, between-misc, between-place, bodies-back, bodies-misc, bodies-place, bracket-back, bracket-misc, bracket-place, expr-back, expr-fall, expr-misc, expr-place, field-back, field-fall, field-misc, field-place, fields-back, fields-fall, fields-misc, fields-place, form-back, form-misc, form-place, func-back, func-fall, func-misc, func-place, future-back, future-fall, future-misc, future-place, let-in-back, let-in-fall, let-in-misc, let-in-place, literal-back, literal-fall, literal-misc, literal-place, message-back, message-fall, message-misc, message-place, method-back, method-fall, method-misc, method-place, methods-back, methods-fall, methods-misc, methods-place, one-back, one-misc, parts-back, parts-fall, parts-misc, parts-place, spaced-back, spaced-misc, spaced-place}
 use Rattle.parse.specs.FormLaws.{form-rest}
 use lib.ListN.{length}
 use Prim.Native.Nat.{ℕ, _+_, _-_, _*_, _<_}
@@ -8,67 +9,61 @@ use borrow.Fn.Kinds.{In}
 use borrow.Fn.PlainCycle.{Measures, is, falls, and}
 use Rattle.parse.proofs.forms.between.Reads as between
 use Rattle.parse.proofs.forms.between.Kinds as between-kinds
-use Rattle.parse.proofs.forms.+between+bracket+expr+form+func+future+get+last+let_in+literals-bodies+literals-field+literals-fields+literals-literal+literals-method+literals-methods+messages-args+messages-arguments+messages-message+one+spaced+two.Lts-between as between-lts
+use Rattle.parse.proofs.forms.+between+bracket+expr+form+func+future+let_in+literals-bodies+literals-field+literals-fields+literals-literal+literals-method+literals-methods+messages-args+messages-arguments+messages-message+one+parts+spaced.Lts-between as between-lts
 use Rattle.parse.proofs.forms.bracket.Reads as bracket
 use Rattle.parse.proofs.forms.bracket.Kinds as bracket-kinds
-use Rattle.parse.proofs.forms.+between+bracket+expr+form+func+future+get+last+let_in+literals-bodies+literals-field+literals-fields+literals-literal+literals-method+literals-methods+messages-args+messages-arguments+messages-message+one+spaced+two.Lts-bracket as bracket-lts
+use Rattle.parse.proofs.forms.+between+bracket+expr+form+func+future+let_in+literals-bodies+literals-field+literals-fields+literals-literal+literals-method+literals-methods+messages-args+messages-arguments+messages-message+one+parts+spaced.Lts-bracket as bracket-lts
 use Rattle.parse.proofs.forms.expr.Reads as expr
 use Rattle.parse.proofs.forms.expr.Kinds as expr-kinds
-use Rattle.parse.proofs.forms.+between+bracket+expr+form+func+future+get+last+let_in+literals-bodies+literals-field+literals-fields+literals-literal+literals-method+literals-methods+messages-args+messages-arguments+messages-message+one+spaced+two.Lts-expr as expr-lts
+use Rattle.parse.proofs.forms.+between+bracket+expr+form+func+future+let_in+literals-bodies+literals-field+literals-fields+literals-literal+literals-method+literals-methods+messages-args+messages-arguments+messages-message+one+parts+spaced.Lts-expr as expr-lts
 use Rattle.parse.proofs.forms.form.Reads as form
 use Rattle.parse.proofs.forms.form.Kinds as form-kinds
-use Rattle.parse.proofs.forms.+between+bracket+expr+form+func+future+get+last+let_in+literals-bodies+literals-field+literals-fields+literals-literal+literals-method+literals-methods+messages-args+messages-arguments+messages-message+one+spaced+two.Lts-form as form-lts
+use Rattle.parse.proofs.forms.+between+bracket+expr+form+func+future+let_in+literals-bodies+literals-field+literals-fields+literals-literal+literals-method+literals-methods+messages-args+messages-arguments+messages-message+one+parts+spaced.Lts-form as form-lts
 use Rattle.parse.proofs.forms.func.Reads as func
 use Rattle.parse.proofs.forms.func.Kinds as func-kinds
-use Rattle.parse.proofs.forms.+between+bracket+expr+form+func+future+get+last+let_in+literals-bodies+literals-field+literals-fields+literals-literal+literals-method+literals-methods+messages-args+messages-arguments+messages-message+one+spaced+two.Lts-func as func-lts
+use Rattle.parse.proofs.forms.+between+bracket+expr+form+func+future+let_in+literals-bodies+literals-field+literals-fields+literals-literal+literals-method+literals-methods+messages-args+messages-arguments+messages-message+one+parts+spaced.Lts-func as func-lts
 use Rattle.parse.proofs.forms.future.Reads as future
 use Rattle.parse.proofs.forms.future.Kinds as future-kinds
-use Rattle.parse.proofs.forms.+between+bracket+expr+form+func+future+get+last+let_in+literals-bodies+literals-field+literals-fields+literals-literal+literals-method+literals-methods+messages-args+messages-arguments+messages-message+one+spaced+two.Lts-future as future-lts
-use Rattle.parse.proofs.forms.get.Reads as get
-use Rattle.parse.proofs.forms.get.Kinds as get-kinds
-use Rattle.parse.proofs.forms.+between+bracket+expr+form+func+future+get+last+let_in+literals-bodies+literals-field+literals-fields+literals-literal+literals-method+literals-methods+messages-args+messages-arguments+messages-message+one+spaced+two.Lts-get as get-lts
-use Rattle.parse.proofs.forms.last.Reads as last
-use Rattle.parse.proofs.forms.last.Kinds as last-kinds
-use Rattle.parse.proofs.forms.+between+bracket+expr+form+func+future+get+last+let_in+literals-bodies+literals-field+literals-fields+literals-literal+literals-method+literals-methods+messages-args+messages-arguments+messages-message+one+spaced+two.Lts-last as last-lts
+use Rattle.parse.proofs.forms.+between+bracket+expr+form+func+future+let_in+literals-bodies+literals-field+literals-fields+literals-literal+literals-method+literals-methods+messages-args+messages-arguments+messages-message+one+parts+spaced.Lts-future as future-lts
 use Rattle.parse.proofs.forms.let_in.Reads as let-in
 use Rattle.parse.proofs.forms.let_in.Kinds as let-in-kinds
-use Rattle.parse.proofs.forms.+between+bracket+expr+form+func+future+get+last+let_in+literals-bodies+literals-field+literals-fields+literals-literal+literals-method+literals-methods+messages-args+messages-arguments+messages-message+one+spaced+two.Lts-let_in as let-in-lts
+use Rattle.parse.proofs.forms.+between+bracket+expr+form+func+future+let_in+literals-bodies+literals-field+literals-fields+literals-literal+literals-method+literals-methods+messages-args+messages-arguments+messages-message+one+parts+spaced.Lts-let_in as let-in-lts
 use Rattle.parse.proofs.forms.literals.bodies.Reads as bodies
 use Rattle.parse.proofs.forms.literals.bodies.Kinds as bodies-kinds
-use Rattle.parse.proofs.forms.+between+bracket+expr+form+func+future+get+last+let_in+literals-bodies+literals-field+literals-fields+literals-literal+literals-method+literals-methods+messages-args+messages-arguments+messages-message+one+spaced+two.Lts-literals-bodies as bodies-lts
+use Rattle.parse.proofs.forms.+between+bracket+expr+form+func+future+let_in+literals-bodies+literals-field+literals-fields+literals-literal+literals-method+literals-methods+messages-args+messages-arguments+messages-message+one+parts+spaced.Lts-literals-bodies as bodies-lts
 use Rattle.parse.proofs.forms.literals.field.Reads as field
 use Rattle.parse.proofs.forms.literals.field.Kinds as field-kinds
-use Rattle.parse.proofs.forms.+between+bracket+expr+form+func+future+get+last+let_in+literals-bodies+literals-field+literals-fields+literals-literal+literals-method+literals-methods+messages-args+messages-arguments+messages-message+one+spaced+two.Lts-literals-field as field-lts
+use Rattle.parse.proofs.forms.+between+bracket+expr+form+func+future+let_in+literals-bodies+literals-field+literals-fields+literals-literal+literals-method+literals-methods+messages-args+messages-arguments+messages-message+one+parts+spaced.Lts-literals-field as field-lts
 use Rattle.parse.proofs.forms.literals.fields.Reads as fields
 use Rattle.parse.proofs.forms.literals.fields.Kinds as fields-kinds
-use Rattle.parse.proofs.forms.+between+bracket+expr+form+func+future+get+last+let_in+literals-bodies+literals-field+literals-fields+literals-literal+literals-method+literals-methods+messages-args+messages-arguments+messages-message+one+spaced+two.Lts-literals-fields as fields-lts
+use Rattle.parse.proofs.forms.+between+bracket+expr+form+func+future+let_in+literals-bodies+literals-field+literals-fields+literals-literal+literals-method+literals-methods+messages-args+messages-arguments+messages-message+one+parts+spaced.Lts-literals-fields as fields-lts
 use Rattle.parse.proofs.forms.literals.literal.Reads as literal
 use Rattle.parse.proofs.forms.literals.literal.Kinds as literal-kinds
-use Rattle.parse.proofs.forms.+between+bracket+expr+form+func+future+get+last+let_in+literals-bodies+literals-field+literals-fields+literals-literal+literals-method+literals-methods+messages-args+messages-arguments+messages-message+one+spaced+two.Lts-literals-literal as literal-lts
+use Rattle.parse.proofs.forms.+between+bracket+expr+form+func+future+let_in+literals-bodies+literals-field+literals-fields+literals-literal+literals-method+literals-methods+messages-args+messages-arguments+messages-message+one+parts+spaced.Lts-literals-literal as literal-lts
 use Rattle.parse.proofs.forms.literals.method.Reads as method
 use Rattle.parse.proofs.forms.literals.method.Kinds as method-kinds
-use Rattle.parse.proofs.forms.+between+bracket+expr+form+func+future+get+last+let_in+literals-bodies+literals-field+literals-fields+literals-literal+literals-method+literals-methods+messages-args+messages-arguments+messages-message+one+spaced+two.Lts-literals-method as method-lts
+use Rattle.parse.proofs.forms.+between+bracket+expr+form+func+future+let_in+literals-bodies+literals-field+literals-fields+literals-literal+literals-method+literals-methods+messages-args+messages-arguments+messages-message+one+parts+spaced.Lts-literals-method as method-lts
 use Rattle.parse.proofs.forms.literals.methods.Reads as methods
 use Rattle.parse.proofs.forms.literals.methods.Kinds as methods-kinds
-use Rattle.parse.proofs.forms.+between+bracket+expr+form+func+future+get+last+let_in+literals-bodies+literals-field+literals-fields+literals-literal+literals-method+literals-methods+messages-args+messages-arguments+messages-message+one+spaced+two.Lts-literals-methods as methods-lts
+use Rattle.parse.proofs.forms.+between+bracket+expr+form+func+future+let_in+literals-bodies+literals-field+literals-fields+literals-literal+literals-method+literals-methods+messages-args+messages-arguments+messages-message+one+parts+spaced.Lts-literals-methods as methods-lts
 use Rattle.parse.proofs.forms.messages.args.Reads as args
 use Rattle.parse.proofs.forms.messages.args.Kinds as args-kinds
-use Rattle.parse.proofs.forms.+between+bracket+expr+form+func+future+get+last+let_in+literals-bodies+literals-field+literals-fields+literals-literal+literals-method+literals-methods+messages-args+messages-arguments+messages-message+one+spaced+two.Lts-messages-args as args-lts
+use Rattle.parse.proofs.forms.+between+bracket+expr+form+func+future+let_in+literals-bodies+literals-field+literals-fields+literals-literal+literals-method+literals-methods+messages-args+messages-arguments+messages-message+one+parts+spaced.Lts-messages-args as args-lts
 use Rattle.parse.proofs.forms.messages.arguments.Reads as arguments
 use Rattle.parse.proofs.forms.messages.arguments.Kinds as arguments-kinds
-use Rattle.parse.proofs.forms.+between+bracket+expr+form+func+future+get+last+let_in+literals-bodies+literals-field+literals-fields+literals-literal+literals-method+literals-methods+messages-args+messages-arguments+messages-message+one+spaced+two.Lts-messages-arguments as arguments-lts
+use Rattle.parse.proofs.forms.+between+bracket+expr+form+func+future+let_in+literals-bodies+literals-field+literals-fields+literals-literal+literals-method+literals-methods+messages-args+messages-arguments+messages-message+one+parts+spaced.Lts-messages-arguments as arguments-lts
 use Rattle.parse.proofs.forms.messages.message.Reads as message
 use Rattle.parse.proofs.forms.messages.message.Kinds as message-kinds
-use Rattle.parse.proofs.forms.+between+bracket+expr+form+func+future+get+last+let_in+literals-bodies+literals-field+literals-fields+literals-literal+literals-method+literals-methods+messages-args+messages-arguments+messages-message+one+spaced+two.Lts-messages-message as message-lts
+use Rattle.parse.proofs.forms.+between+bracket+expr+form+func+future+let_in+literals-bodies+literals-field+literals-fields+literals-literal+literals-method+literals-methods+messages-args+messages-arguments+messages-message+one+parts+spaced.Lts-messages-message as message-lts
 use Rattle.parse.proofs.forms.one.Reads as one
 use Rattle.parse.proofs.forms.one.Kinds as one-kinds
-use Rattle.parse.proofs.forms.+between+bracket+expr+form+func+future+get+last+let_in+literals-bodies+literals-field+literals-fields+literals-literal+literals-method+literals-methods+messages-args+messages-arguments+messages-message+one+spaced+two.Lts-one as one-lts
+use Rattle.parse.proofs.forms.+between+bracket+expr+form+func+future+let_in+literals-bodies+literals-field+literals-fields+literals-literal+literals-method+literals-methods+messages-args+messages-arguments+messages-message+one+parts+spaced.Lts-one as one-lts
+use Rattle.parse.proofs.forms.parts.Reads as parts
+use Rattle.parse.proofs.forms.parts.Kinds as parts-kinds
+use Rattle.parse.proofs.forms.+between+bracket+expr+form+func+future+let_in+literals-bodies+literals-field+literals-fields+literals-literal+literals-method+literals-methods+messages-args+messages-arguments+messages-message+one+parts+spaced.Lts-parts as parts-lts
 use Rattle.parse.proofs.forms.spaced.Reads as spaced
 use Rattle.parse.proofs.forms.spaced.Kinds as spaced-kinds
-use Rattle.parse.proofs.forms.+between+bracket+expr+form+func+future+get+last+let_in+literals-bodies+literals-field+literals-fields+literals-literal+literals-method+literals-methods+messages-args+messages-arguments+messages-message+one+spaced+two.Lts-spaced as spaced-lts
-use Rattle.parse.proofs.forms.two.Reads as two
-use Rattle.parse.proofs.forms.two.Kinds as two-kinds
-use Rattle.parse.proofs.forms.+between+bracket+expr+form+func+future+get+last+let_in+literals-bodies+literals-field+literals-fields+literals-literal+literals-method+literals-methods+messages-args+messages-arguments+messages-message+one+spaced+two.Lts-two as two-lts
+use Rattle.parse.proofs.forms.+between+bracket+expr+form+func+future+let_in+literals-bodies+literals-field+literals-fields+literals-literal+literals-method+literals-methods+messages-args+messages-arguments+messages-message+one+parts+spaced.Lts-spaced as spaced-lts
 use Rattle.parse.proofs.atoms.atom.Reads as atom-reads
 use Rattle.parse.proofs.scratch.close.Reads as close-reads
 use Rattle.parse.proofs.scratch.head.Reads as head-reads
@@ -78,13 +73,15 @@ use Rattle.parse.proofs.headers.method_head.Reads as method-head-reads
 use Rattle.parse.proofs.scratch.put.Reads as put-reads
 use Rattle.parse.proofs.names.spaced_word.Reads as spaced-word-reads
 use Rattle.parse.proofs.names.word_at.Reads as word-at-reads
+use Rattle.layout.proofs.kinds.operator.Reads as operator-reads
+use Rattle.layout.proofs.kinds.operands.Reads as operands-reads
 use Rattle.scan.proofs.keyword.Reads as keyword-reads
 use Rattle.scan.proofs.run_end.Reads as run-end-reads
 use Rattle.scan.proofs.starts.Reads as starts-reads
-use Rattle.parse.proofs.forms.+between+bracket+expr+form+func+future+get+last+let_in+literals-bodies+literals-field+literals-fields+literals-literal+literals-method+literals-methods+messages-args+messages-arguments+messages-message+one+spaced+two.{
+use Rattle.parse.proofs.forms.+between+bracket+expr+form+func+future+let_in+literals-bodies+literals-field+literals-fields+literals-literal+literals-method+literals-methods+messages-args+messages-arguments+messages-message+one+parts+spaced.{
   statement,
 }
-use Rattle.parse.proofs.forms.+between+bracket+expr+form+func+future+get+last+let_in+literals-bodies+literals-field+literals-fields+literals-literal+literals-method+literals-methods+messages-args+messages-arguments+messages-message+one+spaced+two.Tie.{
+use Rattle.parse.proofs.forms.+between+bracket+expr+form+func+future+let_in+literals-bodies+literals-field+literals-fields+literals-literal+literals-method+literals-methods+messages-args+messages-arguments+messages-message+one+parts+spaced.Tie.{
   close,
 }
 
@@ -105,12 +102,6 @@ abbrev μ-func : Measures 4 func-kinds.ps ℕ
 
 abbrev μ-future : Measures 4 future-kinds.ps ℕ
 μ-future κs a = 6 * (length (a .0 .now) - a .1 .0) + 3
-
-abbrev μ-get : Measures 4 get-kinds.ps ℕ
-μ-get κs a = 6 * (length (a .0 .now) - a .1 .0) + 2
-
-abbrev μ-last : Measures 4 last-kinds.ps ℕ
-μ-last κs a = 6 * (length (a .0 .now) - a .1 .0) + 2
 
 abbrev μ-let-in : Measures 4 let-in-kinds.ps ℕ
 μ-let-in κs a = 6 * (length (a .0 .now) - a .1 .0) + 3
@@ -143,13 +134,13 @@ abbrev μ-message : Measures 4 message-kinds.ps ℕ
 μ-message κs a = 6 * (length (a .0 .now) - a .1 .0) + 2
 
 abbrev μ-one : Measures 4 one-kinds.ps ℕ
-μ-one κs a = 6 * (length (a .0 .now) - a .1 .0) + 2
+μ-one κs a = 6 * (length (a .0 .now) - a .1 .0) + 3
+
+abbrev μ-parts : Measures 4 parts-kinds.ps ℕ
+μ-parts κs a = 6 * (length (a .0 .now) - a .1 .0) + 2
 
 abbrev μ-spaced : Measures 4 spaced-kinds.ps ℕ
 μ-spaced κs a = 6 * (length (a .0 .now) - a .1 .0) + 1
-
-abbrev μ-two : Measures 4 two-kinds.ps ℕ
-μ-two κs a = 6 * (length (a .0 .now) - a .1 .0) + 2
 
 abbrev between-at : ℕ → In 4 between-kinds.ps
 between-at t = and 4 between-kinds.ps (is 4 between-kinds.ps μ-between t) between.Pre
@@ -186,18 +177,6 @@ future-at t = and 4 future-kinds.ps (is 4 future-kinds.ps μ-future t) future.Pr
 
 abbrev future-below : ℕ → In 4 future-kinds.ps
 future-below t = and 4 future-kinds.ps (falls 4 future-kinds.ps _<_ μ-future t) future.Pre
-
-abbrev get-at : ℕ → In 4 get-kinds.ps
-get-at t = and 4 get-kinds.ps (is 4 get-kinds.ps μ-get t) get.Pre
-
-abbrev get-below : ℕ → In 4 get-kinds.ps
-get-below t = and 4 get-kinds.ps (falls 4 get-kinds.ps _<_ μ-get t) get.Pre
-
-abbrev last-at : ℕ → In 4 last-kinds.ps
-last-at t = and 4 last-kinds.ps (is 4 last-kinds.ps μ-last t) last.Pre
-
-abbrev last-below : ℕ → In 4 last-kinds.ps
-last-below t = and 4 last-kinds.ps (falls 4 last-kinds.ps _<_ μ-last t) last.Pre
 
 abbrev let-in-at : ℕ → In 4 let-in-kinds.ps
 let-in-at t = and 4 let-in-kinds.ps (is 4 let-in-kinds.ps μ-let-in t) let-in.Pre
@@ -266,21 +245,21 @@ one-at t = and 4 one-kinds.ps (is 4 one-kinds.ps μ-one t) one.Pre
 abbrev one-below : ℕ → In 4 one-kinds.ps
 one-below t = and 4 one-kinds.ps (falls 4 one-kinds.ps _<_ μ-one t) one.Pre
 
+abbrev parts-at : ℕ → In 4 parts-kinds.ps
+parts-at t = and 4 parts-kinds.ps (is 4 parts-kinds.ps μ-parts t) parts.Pre
+
+abbrev parts-below : ℕ → In 4 parts-kinds.ps
+parts-below t = and 4 parts-kinds.ps (falls 4 parts-kinds.ps _<_ μ-parts t) parts.Pre
+
 abbrev spaced-at : ℕ → In 4 spaced-kinds.ps
 spaced-at t = and 4 spaced-kinds.ps (is 4 spaced-kinds.ps μ-spaced t) spaced.Pre
 
 abbrev spaced-below : ℕ → In 4 spaced-kinds.ps
 spaced-below t = and 4 spaced-kinds.ps (falls 4 spaced-kinds.ps _<_ μ-spaced t) spaced.Pre
 
-abbrev two-at : ℕ → In 4 two-kinds.ps
-two-at t = and 4 two-kinds.ps (is 4 two-kinds.ps μ-two t) two.Pre
-
-abbrev two-below : ℕ → In 4 two-kinds.ps
-two-below t = and 4 two-kinds.ps (falls 4 two-kinds.ps _<_ μ-two t) two.Pre
-
-pub +between+bracket+expr+form+func+future+get+last+let-in+literals·bodies+literals·field+literals·fields+literals·literal+literals·method+literals·methods+messages·args+messages·arguments+messages·message+one+spaced+two-spec :
+pub +between+bracket+expr+form+func+future+let-in+literals·bodies+literals·field+literals·fields+literals·literal+literals·method+literals·methods+messages·args+messages·arguments+messages·message+one+parts+spaced-spec :
     {M : Type 1} → statement M
-+between+bracket+expr+form+func+future+get+last+let-in+literals·bodies+literals·field+literals·fields+literals·literal+literals·method+literals·methods+messages·args+messages·arguments+messages·message+one+spaced+two-spec =
++between+bracket+expr+form+func+future+let-in+literals·bodies+literals·field+literals·fields+literals·literal+literals·method+literals·methods+messages·args+messages·arguments+messages·message+one+parts+spaced-spec =
     close
     μ-between
     μ-bracket
@@ -288,8 +267,6 @@ pub +between+bracket+expr+form+func+future+get+last+let-in+literals·bodies+lite
     μ-form
     μ-func
     μ-future
-    μ-get
-    μ-last
     μ-let-in
     μ-bodies
     μ-field
@@ -301,8 +278,8 @@ pub +between+bracket+expr+form+func+future+get+last+let-in+literals·bodies+lite
     μ-arguments
     μ-message
     μ-one
+    μ-parts
     μ-spaced
-    μ-two
     (λ t. between-lts.spec (
       spaced-below t,
       spaced.Post,
@@ -310,8 +287,8 @@ pub +between+bracket+expr+form+func+future+get+last+let-in+literals·bodies+lite
       spaced-word-reads.Learnt,
       head-reads.Asked,
       head-reads.Learnt,
-      last-below t,
-      last.Post,
+      parts-below t,
+      parts.Post,
     )
     (between-at t)
     between.Post
@@ -368,25 +345,37 @@ pub +between+bracket+expr+form+func+future+get+last+let-in+literals·bodies+lite
     (λ c. search expr-back)
     )
     (λ t. form-lts.spec (
-      two-below t,
-      two.Post,
-      get-below t,
-      get.Post,
+      operator-reads.Asked,
+      operator-reads.Learnt,
+      operands-reads.Asked,
+      operands-reads.Learnt,
+      parts-below t,
+      parts.Post,
       between-below t,
       between.Post,
-      message-below t,
-      message.Post,
       let-in-below t,
       let-in.Post,
       future-below t,
       future.Post,
-      func-below t,
-      func.Post,
+      message-below t,
+      message.Post,
       literal-below t,
       literal.Post,
+      func-below t,
+      func.Post,
     )
     (form-at t)
     form.Post
+    (λ c κs. search form-misc)
+    (λ c κs. search form-misc)
+    (λ c. search form-misc)
+    (λ c κs. (search needs, (search form-place, search form-place, search needs, search needs)))
+    (λ c. search form-misc)
+    (λ c. search form-back)
+    (λ c. search form-misc)
+    (λ c κs. (search needs, (search form-place, search form-place, search needs)))
+    (λ c. search form-misc)
+    (λ c. search form-back)
     (λ c κs. (search needs, (search form-place, search form-place, search needs)))
     (λ c κs. (search needs, (search form-place, search form-place, search needs)))
     (λ c κs. (search needs, (search form-place, search form-place, search needs)))
@@ -396,13 +385,11 @@ pub +between+bracket+expr+form+func+future+get+last+let-in+literals·bodies+lite
     (λ c κs. (search needs, (search form-place, search form-place, search needs)))
     (λ c κs. (search needs, (search form-place, search form-place, search needs)))
     (λ c κs. (search needs, (search form-place, search form-place, search needs)))
+    (λ c. search form-misc)
+    (λ c κs. (search needs, (search form-place, search form-place, search needs, search needs)))
     (λ c κs. (search needs, (search form-place, search form-place, search needs)))
-    (λ c κs. (search needs, (search form-place, search form-place, search needs)))
-    (λ c κs. (search needs, (search form-place, search form-place, search needs)))
-    (λ c κs. (search needs, (search form-place, search form-place, search needs)))
-    (λ c κs. (search needs, (search form-place, search form-place, search needs)))
-    (λ c κs. (search needs, (search form-place, search form-place, search needs)))
-    (λ c κs. (search needs, (search form-place, search form-place, search needs)))
+    (λ c. search form-misc)
+    (λ c κs. (search needs, (search form-place, search form-place, search needs, search needs)))
     (λ c. search form-misc)
     (λ c. search form-back)
     (λ c. search form-misc)
@@ -427,15 +414,7 @@ pub +between+bracket+expr+form+func+future+get+last+let-in+literals·bodies+lite
     (λ c. search form-back)
     (λ c. search form-misc)
     (λ c. search form-back)
-    (λ c. search form-misc)
-    (λ c. search form-back)
-    (λ c. search form-misc)
-    (λ c. search form-back)
-    (λ c. search form-misc)
-    (λ c. search form-back)
-    (λ c. search form-misc)
-    (λ c. search form-back)
-    (λ c. form-rest _ _ _ _ _ _ (c .match .rest))
+    (λ c. form-rest _ _ _ _ _ _ (λ e. omega arith) (λ e. omega arith) (c .match .rest))
     )
     (λ t. func-lts.spec (
       spaced-word-reads.Asked,
@@ -479,61 +458,21 @@ pub +between+bracket+expr+form+func+future+get+last+let-in+literals·bodies+lite
     (λ c. search future-back)
     (λ c. search future-back)
     )
-    (λ t. get-lts.spec (
-      spaced-below t,
-      spaced.Post,
-      spaced-word-reads.Asked,
-      spaced-word-reads.Learnt,
-      head-reads.Asked,
-      head-reads.Learnt,
-      close-reads.Asked,
-      close-reads.Learnt,
-    )
-    (get-at t)
-    get.Post
-    (λ c. search get-misc)
-    (λ c κs. (search needs, (search get-place, search get-place, search needs)))
-    (λ c. search get-misc)
-    (λ c κs. (search get-place, search get-misc))
-    (λ c. search get-misc)
-    (λ c κs. search get-misc)
-    (λ c κs. (search get-place, search needs, search needs))
-    (λ c. search get-misc)
-    (λ c. search get-misc)
-    (λ c. search get-misc)
-    (λ c. search get-back)
-    (λ c. search get-misc)
-    (λ c. search get-back)
-    (λ c. search get-misc)
-    (λ c. search get-back)
-    )
-    (λ t. last-lts.spec
-    (spaced-below t, spaced.Post, close-reads.Asked, close-reads.Learnt)
-    (last-at t)
-    last.Post
-    (λ c κs. (search needs, (search last-place, search last-place, search needs)))
-    (λ c. search last-misc)
-    (λ c κs. (search last-place, search needs, search needs))
-    (λ c. search last-misc)
-    (λ c. search last-misc)
-    (λ c. search last-back)
-    (λ c. search last-misc)
-    (λ c. search last-back)
-    )
     (λ t. let-in-lts.spec (
       spaced-word-reads.Asked,
       spaced-word-reads.Learnt,
       head-reads.Asked,
       head-reads.Learnt,
-      two-below t,
-      two.Post,
+      parts-below t,
+      parts.Post,
     )
     (let-in-at t)
     let-in.Post
     (λ c κs. (search let-in-place, search let-in-misc))
     (λ c. search let-in-misc)
+    (λ c. search let-in-misc)
     (λ c κs. search let-in-misc)
-    (λ c κs. (search let-in-fall, (search let-in-place, search let-in-place, search needs)))
+    (λ c κs. (search let-in-fall, (search let-in-place, search let-in-place, search needs, search needs)))
     (λ c. search let-in-misc)
     (λ c. search let-in-misc)
     (λ c. search let-in-back)
@@ -721,20 +660,38 @@ pub +between+bracket+expr+form+func+future+get+last+let-in+literals·bodies+lite
     (λ c. search message-back)
     )
     (λ t. one-lts.spec
-    (spaced-below t, spaced.Post, close-reads.Asked, close-reads.Learnt)
+    (parts-below t, parts.Post)
     (one-at t)
     one.Post
     (λ c. search one-misc)
-    (λ c κs. (search needs, (search one-place, search one-place, search needs)))
-    (λ c. search one-misc)
-    (λ c κs. (search one-place, search needs, search needs))
-    (λ c. search one-misc)
-    (λ c. search one-misc)
-    (λ c. search one-back)
+    (λ c κs. (search needs, (search one-misc, search one-misc, search needs, search needs)))
     (λ c. search one-misc)
     (λ c. search one-back)
     )
-    (λ t. spaced-lts.spec
+    (λ t. parts-lts.spec (
+      close-reads.Asked,
+      close-reads.Learnt,
+      spaced-below t,
+      spaced.Post,
+      parts-below t,
+      parts.Post,
+    )
+    (parts-at t)
+    parts.Post
+    (λ c κs. search parts-misc)
+    (λ c. search parts-misc)
+    (λ c. search parts-back)
+    (λ c κs. (search needs, (search parts-place, search parts-place, search needs)))
+    (λ c. search parts-misc)
+    (λ c. search parts-misc)
+    (λ c κs. (search parts-fall, (search parts-place, search parts-place, search needs, search needs)))
+    (λ c. search parts-misc)
+    (λ c. search parts-misc)
+    (λ c. search parts-back)
+    (λ c. search parts-misc)
+    (λ c. search parts-back)
+    )
+    λ t. spaced-lts.spec
     (starts-reads.Asked, starts-reads.Learnt, expr-below t, expr.Post)
     (spaced-at t)
     spaced.Post
@@ -745,17 +702,3 @@ pub +between+bracket+expr+form+func+future+get+last+let-in+literals·bodies+lite
     (λ c. search spaced-misc)
     (λ c. search spaced-back)
     (λ c. search spaced-back)
-    )
-    λ t. two-lts.spec
-    (spaced-below t, spaced.Post, last-below t, last.Post)
-    (two-at t)
-    two.Post
-    (λ c. search two-misc)
-    (λ c κs. (search needs, (search two-place, search two-place, search needs)))
-    (λ c. search two-misc)
-    (λ c κs. (search two-fall, (search two-place, search two-place, search needs, search needs)))
-    (λ c. search two-misc)
-    (λ c. search two-misc)
-    (λ c. search two-back)
-    (λ c. search two-misc)
-    (λ c. search two-back)
