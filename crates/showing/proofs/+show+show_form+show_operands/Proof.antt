@@ -13,12 +13,12 @@ use Rattle.showing.proofs.+show+show_form+show_operands.Lts-show_form a
 use Rattle.showing.proofs.show_operands.Reads as show-operands
 use Rattle.showing.proofs.show_operands.Kinds as show-operands-kinds
 use Rattle.showing.proofs.+show+show_form+show_operands.Lts-show_operands as show-operands-lts
-use Rattle.showing.proofs.name_after.Reads as name-after-reads
-use Rattle.showing.proofs.operand_count.Reads as operand-count-reads
-use Rattle.showing.proofs.put.Reads as put-reads
-use Rattle.showing.proofs.put_head.Reads as put-head-reads
-use Rattle.showing.proofs.put_leaf.Reads as put-leaf-reads
-use Rattle.showing.proofs.put_name.Reads as put-name-reads
+use Rattle.showing.proofs.heads.name_after.Reads as name-after-reads
+use Rattle.showing.proofs.heads.operand_count.Reads as operand-count-reads
+use Rattle.showing.proofs.text.put.Reads as put-reads
+use Rattle.showing.proofs.heads.put_head.Reads as put-head-reads
+use Rattle.showing.proofs.leaves.put_leaf.Reads as put-leaf-reads
+use Rattle.showing.proofs.text.put_name.Reads as put-name-reads
 use Rattle.showing.proofs.+show+show_form+show_operands.{statement}
 use Rattle.showing.proofs.+show+show_form+show_operands.Tie.{close}
 

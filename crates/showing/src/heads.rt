@@ -1,0 +1,161 @@
+// What a word says of its form, and the text before its operands.
+ghost use Prim.Native.Nat.{_≤_};
+ghost use lib.ListN.{length};
+ghost use Rattle.showing.specs.Writing.{Wrote};
+ghost use Rattle.showing.specs.Shown.{first, second, after, arity, openIn, placesIn, paramsIn, operatorIn, headIn};
+ghost use Rattle.showing.specs.Codes.{Name, Tagged, Arity};
+use crate::text;
+use layout::PAYLOAD;
+
+// The name behind the operator of the word `h`, or 127.
+fn first_name(h: u32) -> usize
+    ensures { λ r. ⌜ Name (first h) r ⌝ }
+{
+    let k = h / PAYLOAD;
+    if k < 11 {
+        return text::NO_NAME;
+    }
+    if k < 13 {
+        return (h % 128) as usize;
+    }
+    if k == 65 {
+        return (h % 128) as usize;
+    }
+    if k < 128 {
+        return text::NO_NAME;
+    }
+    (h % 128) as usize
+}
+
+// The second name behind the operator, which only a future has.
+fn second_name(h: u32) -> usize
+    ensures { λ r. ⌜ Name (second h) r ⌝ }
+{
+    if h / PAYLOAD == 12 {
+        return (h / 128 % 128) as usize;
+    }
+    text::NO_NAME
+}
+
+// The name behind the first operand, with its tag.
+pub fn name_after(h: u32) -> usize
+    ensures { λ r. ⌜ Tagged (after h) r ⌝ }
+{
+    let k = h / PAYLOAD;
+    if k < 9 {
+        return text::NO_NAME;
+    }
+    if k < 11 {
+        return (h % 128) as usize;
+    }
+    if k < 13 {
+        return text::NO_NAME;
+    }
+    if k < 15 {
+        return (h % 512) as usize;
+    }
+    if k == 18 {
+        return (h % 512) as usize;
+    }
+    if k == 64 {
+        return (h % 512) as usize;
+    }
+    if k == 67 {
+        return (h % 128) as usize;
+    }
+    text::NO_NAME
+}
+
+// How many operands the word `h` has, if its kind is 7 or more.
+pub fn operand_count(h: u32) -> usize
+    ensures { λ r. ⌜ Arity (arity h) r ⌝ }
+{
+    let k = h / PAYLOAD;
+    if k < 9 {
+        return 2;
+    }
+    if k == 9 {
+        return 1;
+    }
+    if k < 12 {
+        return 2;
+    }
+    if k == 12 {
+        return 1;
+    }
+    if k < 15 {
+        return (1 + h / 512 % 8) as usize;
+    }
+    if k < 18 {
+        return (h % 8 + h / 8 % 8) as usize;
+    }
+    if k == 18 {
+        return (1 + h / 512 % 8) as usize;
+    }
+    if k == 64 {
+        return (1 + h / 512 % 8) as usize;
+    }
+    if k < 66 {
+        return 1;
+    }
+    if k < 69 {
+        return 2;
+    }
+    1
+}
+
+// The first of the names in brackets, behind a space and the bracket.
+fn put_open(t: &[u32], x: usize, out: &mut [u8], o: usize) -> usize
+    requires { ⌜ (o ≤ 1099511627776) × (256 ≤ length (now t)) × (x ≤ 127) ⌝ }
+    ensures { λ r. ⌜ Wrote (now (out .entry)) o (openIn (now (t .entry)) x) (now (out .exit)) r ⌝ }
+{
+    let p = text::put_bytes(b" (", out, o);
+    text::put_word(t, x, out, p)
+}
+
+// Names in brackets, behind a space; an empty place has the name 127.
+fn put_places(t: &[u32], x: usize, y: usize, z: usize, out: &mut [u8], o: usize) -> usize
+    requires { ⌜ (o ≤ 1099511627776) × (256 ≤ length (now t)) × (x ≤ 127) × (y ≤ 127) × (z ≤ 127) ⌝ }
+    ensures { λ r. ⌜ Wrote (now (out .entry)) o (placesIn (now (t .entry)) x y z) (now (out .exit)) r ⌝ }
+{
+    let a = put_open(t, x, out, o);
+    let b = text::put_name(t, y, out, a);
+    let c = text::put_name(t, z, out, b);
+    text::put(b')', out, c)
+}
+
+// A method's parameters.
+fn put_params(t: &[u32], h: u32, out: &mut [u8], o: usize) -> usize
+    requires { ⌜ (o ≤ 1099511627776) × (256 ≤ length (now t)) ⌝ }
+    ensures { λ r. ⌜ Wrote (now (out .entry)) o (paramsIn (now (t .entry)) h) (now (out .exit)) r ⌝ }
+{
+    if h / PAYLOAD < 192 {
+        return o;
+    }
+    let x = (h / 512 % 128) as usize;
+    let y = (h / 65536 % 128) as usize;
+    let z = (h / 8388608 % 128) as usize;
+    put_places(t, x, y, z, out, o)
+}
+
+// A bracket and the operator of kind `k`.
+fn put_operator(k: u32, out: &mut [u8], o: usize) -> usize
+    requires { ⌜ o ≤ 1099511627776 ⌝ }
+    ensures { λ r. ⌜ Wrote (now (out .entry)) o (operatorIn k) (now (out .exit)) r ⌝ }
+{
+    let p = text::put(b'(', out, o);
+    text::put_keyword(k, out, p)
+}
+
+// What stands before the operands of the word `h`.
+pub fn put_head(t: &[u32], h: u32, out: &mut [u8], o: usize) -> usize
+    requires { ⌜ (o ≤ 1099511627776) × (256 ≤ length (now t)) ⌝ }
+    ensures { λ r. ⌜ Wrote (now (out .entry)) o (headIn (now (t .entry)) h) (now (out .exit)) r ⌝ }
+{
+    let x = first_name(h);
+    let y = second_name(h);
+    let a = put_operator(h / PAYLOAD, out, o);
+    let b = text::put_name(t, x, out, a);
+    let c = text::put_name(t, y, out, b);
+    put_params(t, h, out, c)
+}

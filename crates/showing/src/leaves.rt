@@ -1,0 +1,51 @@
+// The text of a word with no operands: a value or a variable.
+ghost use Prim.Native.Nat.{_≤_, _<_};
+ghost use lib.ListN.{length};
+ghost use Rattle.showing.specs.Writing.{Wrote};
+ghost use Rattle.showing.specs.Shown.{seriesIn, ownerIn, refIn, leafIn};
+use crate::text;
+use layout::PAYLOAD;
+
+// A series, between two numbers.
+pub fn put_series(s: u32, out: &mut [u8], o: usize) -> usize
+    requires { ⌜ o ≤ 1099511627776 ⌝ }
+    ensures { λ r. ⌜ Wrote (now (out .entry)) o (seriesIn s) (now (out .exit)) r ⌝ }
+{
+    if s == 0 {
+        return text::put_bytes(b" m ", out, o);
+    }
+    text::put_bytes(b" c ", out, o)
+}
+
+// The actor of a reference.
+fn put_owner(a: u32, out: &mut [u8], o: usize) -> usize
+    requires { ⌜ (o ≤ 1099511627776) × (a < 128) ⌝ }
+    ensures { λ r. ⌜ Wrote (now (out .entry)) o (ownerIn a) (now (out .exit)) r ⌝ }
+{
+    let p = text::put_bytes(b"(ref ", out, o);
+    text::put_number(a, out, p)
+}
+
+// A reference: actor, series and number.
+fn put_ref(h: u32, out: &mut [u8], o: usize) -> usize
+    requires { ⌜ o ≤ 1099511627776 ⌝ }
+    ensures { λ r. ⌜ Wrote (now (out .entry)) o (refIn h) (now (out .exit)) r ⌝ }
+{
+    let a = put_owner(h / 131072 % 128, out, o);
+    let b = put_series(h / 65536 % 2, out, a);
+    let c = text::put_number(h % 65536, out, b);
+    text::put(b')', out, c)
+}
+
+// A word of a kind below 7: a value or a variable.
+pub fn put_leaf(t: &[u32], h: u32, out: &mut [u8], o: usize) -> usize
+    requires { ⌜ (o ≤ 1099511627776) × (256 ≤ length (now t)) ⌝ }
+    ensures { λ r. ⌜ Wrote (now (out .entry)) o (leafIn (now (t .entry)) h) (now (out .exit)) r ⌝ }
+{
+    match h / PAYLOAD {
+        1 => text::put_bytes(b"null", out, o),
+        2 => text::put_number(h % PAYLOAD, out, o),
+        3 => put_ref(h, out, o),
+        _ => text::put_word(t, (h % 128) as usize, out, o),
+    }
+}
