@@ -16,7 +16,8 @@ pub record Tagged (x r : ℕ) : Type 0 where
   pub is : r ≡ x
   pub small : r ≤ 511
 
-pub record Arity (n r : ℕ) : Type 0 where
+-- so many operands
+pub record Counted (n r : ℕ) : Type 0 where
   pub is : r ≡ n
   pub small : r ≤ 14
 

@@ -32,7 +32,7 @@ module _ (t : List ℕ) where
   operands-shown {r = r} (more a {w} p q) = rw (append-assoc a w r, p, operands-shown q)
 
   -- with names behind the first of them
-  names-shown : {S : List ℕ → Text} {r : List ℕ} {k : ℕ} {w : List ℕ} {items : List Bytes} (x : ℕ) (ns : List Bytes) → nameIn t x ≡ behind ns [] → (k ≡ 0 → ns ≡ [])
+  pub names-shown : {S : List ℕ → Text} {r : List ℕ} {k : ℕ} {w : List ℕ} {items : List Bytes} (x : ℕ) (ns : List Bytes) → nameIn t x ≡ behind ns [] → (k ≡ 0 → ns ≡ [])
       → Operands S r k w items → operandsIn t S x k (w ++ r) ≡ showing (behind (placed ns items) []) r
   unfolding operandsIn placed
   names-shown x ns e f none = rw (f refl)

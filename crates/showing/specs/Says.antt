@@ -3,17 +3,18 @@
 use mathlib.Core.Path.{_≡_, refl, sym, ap, _∙_}
 use mathlib.Core.Bool.{false}
 use mathlib.Core.List.{List, [], _∷_, _++_, append-assoc, append-nil}
-use Prim.Native.Nat.{ℕ, _/_, _%_, _≤_, _<_}
+use Prim.Native.Nat.{ℕ, _/_, _%_, _≤_, _<_, min}
 use native.Mathlib.Omega.{arith}
-use borrow.Author.Tests.{le-ltb}
+use borrow.Author.Tests.{le-ltb, ne-eqb}
 use lib.Dec.{ltb}
-use Rattle.atlite.specs.Base.{bytes}
 use Rattle.atlite.specs.Lexicon.{Bytes}
+use Rattle.atlite.specs.Keywords.{methodWord}
 use Rattle.atlite.specs.Printer.{form}
 use Rattle.reading.specs.Items.{behind, behind-append, form-closing}
-use Rattle.showing.specs.Shown.{payload, noName, nameIn, keyword, first, second, placesIn, paramsIn, after, arity, operatorIn, headIn, Text}
-use Rattle.showing.specs.Ranges.{over}
-use Rattle.showing.specs.HeadLaws.{first-header, second-other, after-other, arity-header}
+use Rattle.layout.specs.Arity.{arity, arity-header}
+use Rattle.layout.specs.Kinds.{Words}
+use Rattle.layout.specs.KindLaws.{row-none}
+use Rattle.showing.specs.Shown.{payload, noName, nameIn, firstIn, second, placesIn, paramsIn, after, afterIn, count, operatorIn, headIn, Text}
 
 -- ---- items
 pub behind-text : (items : List Bytes) (j : Bytes) → behind items [] ++ j ≡ behind items j
@@ -36,32 +37,29 @@ pub record Says (t : List ℕ) (h : ℕ) (key : Bytes) (before ns : List Bytes) 
   pub isForm : ltb (h / payload) 7 ≡ false
   pub head : headIn t h ≡ (40 ∷ []) ++ (key ++ behind before [])
   pub named : nameIn t (after h) ≡ behind ns []
-  pub count : arity h ≡ n
+  pub count : count h ≡ n
   pub some : n ≡ 0 → ns ≡ []
 
 module _ {t : List ℕ} {h : ℕ} {key : Bytes} {n : ℕ} (f : ltb (h / payload) 7 ≡ false) where
   -- no name behind the first operand, or one
-  pub plainly : {before : List Bytes} → headIn t h ≡ (40 ∷ []) ++ (key ++ behind before []) → after h ≡ noName → arity h ≡ n → Says t h key before [] n
+  pub plainly : {before : List Bytes} → headIn t h ≡ (40 ∷ []) ++ (key ++ behind before []) → after h ≡ noName → arity h ≡ n → n ≤ 14 → Says t h key before [] n
   unfolding nameIn
-  plainly e a c = record { isForm = f; head = e; named = rw a; count = c; some = λ z. refl }
+  plainly e a c l = record { isForm = f; head = e; named = rw a; count = omega arith; some = λ z. refl }
 
-  pub naming : (x : ℕ) {y : Bytes} → nameIn t x ≡ 32 ∷ y → headIn t h ≡ (40 ∷ []) ++ (key ++ []) → after h ≡ x → arity h ≡ n → 0 < n → Says t h key [] (y ∷ []) n
-  naming x {y} g e a c l = record { isForm = f; head = e; named = rw (a, g, append-nil y); count = c; some = λ z. absurd (omega arith) }
+  pub naming : (x : ℕ) {y : Bytes} → nameIn t x ≡ 32 ∷ y → headIn t h ≡ (40 ∷ []) ++ (key ++ []) → after h ≡ x → arity h ≡ n → 0 < n → n ≤ 14 → Says t h key [] (y ∷ []) n
+  naming x {y} g e a c l m = record { isForm = f; head = e; named = rw (a, g, append-nil y); count = omega arith; some = λ z. absurd (omega arith) }
 
 -- ---- methods
-keyword-method : (k : ℕ) → 192 ≤ k → keyword k ≡ bytes "method"
-unfolding keyword
-keyword-method k h = simp (over h)
-
 -- a method's header: its name m, and x y z in the places of its parameters
 module _ (t : List ℕ) (h m x y z : ℕ)
     (k : 192 ≤ h / payload) (a : h % 128 ≡ m) (b : h / 512 % 128 ≡ x) (c : h / 65536 % 128 ≡ y) (d : h / 8388608 % 128 ≡ z)
   where
-    pub says-method : (s p : Bytes) → nameIn t m ≡ 32 ∷ s → placesIn t x y z ≡ 32 ∷ p → Says t h (bytes "method") (s ∷ p ∷ []) [] 1
-    unfolding headIn operatorIn paramsIn nameIn
+    pub says-method : (s p : Bytes) → nameIn t m ≡ 32 ∷ s → placesIn t x y z ≡ 32 ∷ p → Says t h methodWord (s ∷ p ∷ []) [] 1
+    unfolding headIn operatorIn firstIn second paramsIn nameIn afterIn Words
     says-method s p f g =
-        let i : first h ≡ h % 128 = sym (first-header h (omega arith) .is) in
-        let j : second h ≡ noName = sym (second-other h (λ e. omega arith) .is) in
-        plainly (le-ltb (h / payload) 7 (omega arith))
-        (rw (keyword-method (h / payload) k, i, j, le-ltb (h / payload) 192 k, a, b, c, d, f, g, append-nil p))
-        (sym (after-other h (omega arith) (λ e. omega arith) (λ e. omega arith) (λ e. omega arith) .is)) (sym (arity-header h (omega arith) .is))
+        let j = h / payload in
+        let top : min 192 j ≡ 192 = omega arith in
+        plainly (le-ltb j 7 (omega arith))
+        (rw (top, le-ltb j 128 (omega arith), le-ltb j 192 k, ne-eqb j 12 (λ e. omega arith), a, b, c, d, f, g, append-nil p))
+        (rw (row-none j (omega arith), ne-eqb j 13 (λ e. omega arith), ne-eqb j 14 (λ e. omega arith), ne-eqb j 64 (λ e. omega arith), ne-eqb j 67 (λ e. omega arith)))
+        (arity-header h (omega arith)) (omega arith)

@@ -10,8 +10,8 @@ use lib.ListN.{length, drop, getD, drop-of-length-le}
 use lib.Dec.{ltb}
 use lib.Seq.{drop-cons}
 use Rattle.showing.specs.Writing.{most, Wrote, wrote-none, wrote-two}
-use Rattle.showing.specs.Shown.{payload, nameIn, after, arity, headIn, leafIn, operandsIn, formIn, shown}
-use Rattle.showing.specs.Codes.{Tagged, Arity, Showed}
+use Rattle.showing.specs.Shown.{payload, nameIn, after, count, headIn, leafIn, operandsIn, formIn, shown}
+use Rattle.showing.specs.Codes.{Tagged, Counted, Showed}
 
 -- nothing is written, and the words stay
 stays : (t old : List ℕ) (i o : ℕ) → o ≤ most → Showed t (record { text = []; rest = drop i t }) old o old i o
@@ -47,7 +47,7 @@ module _ (t : List ℕ) (n at : ℕ) (old : List ℕ) (o : ℕ) where
 
 -- ---- the form of a word
 module _ (t : List ℕ) (n h at : ℕ) (old : List ℕ) (o : ℕ) where
-  pub form-whole : (m₁ m₂ new : List ℕ) (p x k i q r : ℕ) → Wrote old o (headIn t h) m₁ p → Tagged (after h) x → Arity (arity h) k
+  pub form-whole : (m₁ m₂ new : List ℕ) (p x k i q r : ℕ) → Wrote old o (headIn t h) m₁ p → Tagged (after h) x → Counted (count h) k
       → Showed t (operandsIn t (shown t n) x k (drop at t)) m₁ p m₂ i q → Wrote m₂ q (41 ∷ []) new r
       → Showed t (formIn t (shown t n) h (drop at t)) old o new i r
   unfolding formIn

@@ -1,15 +1,18 @@
 -- The text that words stand for, whatever words they are: what the code is proved against. A word has an opening, a
 -- number of operands and a closing bracket; each operand stands behind a space, and a name may stand behind the first. So one
--- rule shows every form, and only `keyword`, `first`, `second`, `after` and `arity` know the kinds. A message is shown as a form
--- of kind 18, which no term has; the kinds from 64 on are those of a table. Assumes nothing.
-use Prim.Native.Nat.{ℕ, zero, suc, _+_, _-_, _*_, _/_, _%_}
+-- rule shows every form, and what its kind tells is asked of the table of kinds; only the forms that bind names are known here.
+-- Assumes nothing.
+use Prim.Native.Nat.{ℕ, zero, suc, _-_, _*_, _/_, _%_, min}
 use mathlib.Core.Bool.{cond}
 use mathlib.Core.List.{List, [], _∷_, _++_}
 use lib.ListN.{getD}
 use lib.Dec.{eqb, ltb}
 use Rattle.atlite.specs.Base.{bytes}
 use Rattle.atlite.specs.Lexicon.{Bytes}
+use Rattle.atlite.specs.Keywords.{nullWord, thisWord}
 use Rattle.atlite.specs.Printer.{printNumber}
+use Rattle.layout.specs.Kinds.{Kinds, Words, rowIn, wordIn as wordOf}
+use Rattle.layout.specs.Arity.{arity}
 
 -- ---- names
 -- no name stands here
@@ -27,7 +30,7 @@ lettersIn v = letterIn (v % 256) ++ (letterIn (v / 256 % 256) ++ (letterIn (v / 
 -- the words that no dictionary has
 unfoldable pub knownIn : ℕ → Bytes
 knownIn x =
-    cond (eqb x 0) (bytes "this") (cond (eqb x 1) (bytes ".t") (cond (eqb x 2) (bytes ".f") (cond (eqb x 3) (bytes ".r")
+    cond (eqb x 0) thisWord (cond (eqb x 1) (bytes ".t") (cond (eqb x 2) (bytes ".f") (cond (eqb x 3) (bytes ".r")
     (cond (eqb x 4) (bytes ".l") (cond (eqb x 5) (bytes ".s") (cond (eqb x 6) (bytes ".x") (bytes "apply")))))))
 
 -- the word of number x in the dictionary of the words t, which has at most 64 and zeros behind them
@@ -50,19 +53,12 @@ nameIn t c = cond (eqb c noName) [] ((32 ∷ []) ++ taggedIn t c)
 abbrev pub payload : ℕ
 payload = 16777216
 
-unfoldable pub keyword : ℕ → Bytes
-keyword k =
-    cond (eqb k 7) (bytes "plus") (cond (eqb k 8) (bytes "percent") (cond (eqb k 9) (bytes "get") (cond (eqb k 10) (bytes "set")
-    (cond (eqb k 11) (bytes "let") (cond (eqb k 12) (bytes "future") (cond (eqb k 13) (bytes "call") (cond (eqb k 14) (bytes "send")
-    (cond (eqb k 15) (bytes "object") (cond (eqb k 16) (bytes "isolate") (cond (eqb k 17) (bytes "actor") (cond (eqb k 18) (bytes "message")
-    (cond (eqb k 64) (bytes "ask") (cond (eqb k 65) (bytes "fn") (cond (eqb k 66) (bytes "resolve") (cond (eqb k 67) (bytes "when")
-    (cond (eqb k 68) (bytes "seq") (cond (eqb k 128) (bytes "field") (cond (eqb k 130) (bytes "def") (bytes "method")))))))))))))))))))
+-- the name behind the operator, of a let, a future, a function or a header
+unfoldable pub firstIn : ℕ → ℕ → ℕ
+firstIn k h = cond (ltb k 128) (cond (eqb k 11) (h % 128) (cond (eqb k 12) (h % 128) (cond (eqb k 65) (h % 128) noName))) (h % 128)
 
--- the name behind the operator
-unfoldable pub first : ℕ → ℕ
-first h =
-    cond (ltb (h / payload) 11) noName (cond (ltb (h / payload) 13) (h % 128)
-    (cond (eqb (h / payload) 65) (h % 128) (cond (ltb (h / payload) 128) noName (h % 128))))
+abbrev pub first : ℕ → ℕ
+first h = firstIn (h / payload) h
 
 -- the name behind that one
 unfoldable pub second : ℕ → ℕ
@@ -79,23 +75,22 @@ placesIn t x y z = openIn t x ++ (nameIn t y ++ (nameIn t z ++ (41 ∷ [])))
 unfoldable pub paramsIn : List ℕ → ℕ → Bytes
 paramsIn t h = cond (ltb (h / payload) 192) [] (placesIn t (h / 512 % 128) (h / 65536 % 128) (h / 8388608 % 128))
 
--- the name behind the first operand, with its tag
-unfoldable pub after : ℕ → ℕ
-after h =
-    cond (ltb (h / payload) 9) noName (cond (ltb (h / payload) 11) (h % 128) (cond (ltb (h / payload) 13) noName
-    (cond (ltb (h / payload) 15) (h % 512) (cond (eqb (h / payload) 18) (h % 512) (cond (eqb (h / payload) 64) (h % 512)
-    (cond (eqb (h / payload) 67) (h % 128) noName))))))
+-- the name behind the first operand, with its tag: of an operator with a field's name, of a call, a send or an ask, of a when
+unfoldable pub afterIn : ℕ → ℕ → ℕ
+afterIn k h =
+    cond (eqb (rowIn k / 16) 2) (h % 128) (cond (eqb k 13) (h % 512) (cond (eqb k 14) (h % 512) (cond (eqb k 64) (h % 512)
+    (cond (eqb k 67) (h % 128) noName))))
 
-unfoldable pub arity : ℕ → ℕ
-arity h =
-    cond (ltb (h / payload) 9) 2 (cond (eqb (h / payload) 9) 1 (cond (ltb (h / payload) 12) 2 (cond (eqb (h / payload) 12) 1
-    (cond (ltb (h / payload) 15) (1 + h / 512 % 8) (cond (ltb (h / payload) 18) (h % 8 + h / 8 % 8)
-    (cond (eqb (h / payload) 18) (1 + h / 512 % 8) (cond (eqb (h / payload) 64) (1 + h / 512 % 8)
-    (cond (ltb (h / payload) 66) 1 (cond (ltb (h / payload) 69) 2 1)))))))))
+abbrev pub after : ℕ → ℕ
+after h = afterIn (h / payload) h
 
--- what stands before the operands
+-- how many operands are shown: no form has more than 14, and words that are none may say any number
+abbrev pub count : ℕ → ℕ
+count h = min 14 (arity h)
+
+-- what stands before the operands; the kinds of a method's header begin with 192
 unfoldable pub operatorIn : ℕ → Bytes
-operatorIn k = (40 ∷ []) ++ keyword k
+operatorIn k = (40 ∷ []) ++ wordOf (min 192 k)
 
 unfoldable pub headIn : List ℕ → ℕ → Bytes
 headIn t h = operatorIn (h / payload) ++ (nameIn t (first h) ++ (nameIn t (second h) ++ paramsIn t h))
@@ -114,7 +109,7 @@ refIn h = ownerIn (h / 131072 % 128) ++ (seriesIn (h / 65536 % 2) ++ (printNumbe
 -- a word with no operands: a value or a variable
 unfoldable pub leafIn : List ℕ → ℕ → Bytes
 leafIn t h =
-    cond (eqb (h / payload) 1) (bytes "null") (cond (eqb (h / payload) 2) (printNumber (h % payload))
+    cond (eqb (h / payload) 1) nullWord (cond (eqb (h / payload) 2) (printNumber (h % payload))
     (cond (eqb (h / payload) 3) (refIn h) (wordIn t (h % 128))))
 
 -- ---- terms
@@ -132,7 +127,7 @@ operandsIn t S x (suc n) w =
     record { text = (32 ∷ []) ++ (a .text ++ (nameIn t x ++ b .text)); rest = b .rest }
 
 unfoldable pub formIn : List ℕ → (List ℕ → Text) → ℕ → List ℕ → Text
-formIn t S h w = let a = operandsIn t S (after h) (arity h) w in record { text = headIn t h ++ (a .text ++ (41 ∷ [])); rest = a .rest }
+formIn t S h w = let a = operandsIn t S (after h) (count h) w in record { text = headIn t h ++ (a .text ++ (41 ∷ [])); rest = a .rest }
 
 -- the term that w begins with, if at most n of its words lie in one another
 unfoldable pub shown : List ℕ → ℕ → List ℕ → Text
@@ -141,5 +136,5 @@ shown t (suc n) [] = record { text = []; rest = [] }
 shown t (suc n) (h ∷ w) = cond (ltb (h / payload) 7) (record { text = leafIn t h; rest = w }) (formIn t (shown t n) h w)
 
 unfoldable pub Shown·all : Unit {0}
-unfolding taggedIn nameIn keyword first second openIn placesIn paramsIn after arity operatorIn headIn seriesIn ownerIn refIn leafIn operandsIn formIn shown
+unfolding Kinds Words arity taggedIn nameIn firstIn second openIn placesIn paramsIn afterIn operatorIn headIn seriesIn ownerIn refIn leafIn operandsIn formIn shown
 Shown·all = tt

@@ -9,7 +9,7 @@ use lib.ListN.{length}
 use Rattle.atlite.specs.Base.{bytes}
 use Rattle.atlite.specs.Lexicon.{Bytes}
 use Rattle.atlite.specs.Printer.{form, printItems, printWord, printNumber, printName}
-use Rattle.atlite.specs.Keywords.{printKind}
+use Rattle.atlite.specs.Keywords.{printKind, letWord, futureWord, fnWord, whenWord, defWord, fieldWord, methodWord}
 use Rattle.atlite.specs.Listing.{printSeries, printValue}
 use Rattle.atlite.specs.Term.{made, copied, Value, null, num, ref, Name, plain, twoWay, resolve, register, Kind}
 use Rattle.reading.specs.Items.{behind, form-closing}
@@ -17,6 +17,9 @@ use Rattle.layout.specs.Pack.{node, places}
 use Rattle.layout.specs.PackLaws.{NameFits, Each}
 use Rattle.layout.specs.Terms.{variable, seriesBit, encodeValue, tagged, asked, kindNumber, methodHeader}
 use Rattle.layout.specs.TermLaws.{ValueFits, NameOk}
+use Rattle.layout.specs.Parse.{parts}
+use Rattle.layout.specs.ParseHeads.{head-literal}
+use Rattle.layout.specs.Arity.{arity, head-wants}
 use Rattle.showing.specs.Shown.{payload, noName, wordIn, taggedIn, nameIn, openIn, placesIn, seriesIn, ownerIn, refIn, leafIn, shown, Shown·all}
 use Rattle.showing.specs.Spelling.{Spells, spelt, unspelt}
 use Rattle.showing.specs.Says.{Says, showing, plainly, naming, says-method}
@@ -35,14 +38,11 @@ pub node-parts : (k x : ℕ) → NameFits x → (node k x / payload ≡ k) × (n
 node-parts k x g = omega arith
 
 pub asked-parts : (k : ℕ) (m : Name) (n : ℕ) → NameOk m → n < 8
-    → (node k (asked m n) / payload ≡ k) × (node k (asked m n) % 512 ≡ tagged m) × (node k (asked m n) / 512 % 8 ≡ n)
+    → (node k (asked m n) / payload ≡ k) × (node k (asked m n) % 512 ≡ tagged m) × (node k (asked m n) % payload / 128 / 4 ≡ n) × (node k (asked m n) / 512 % 8 ≡ n)
 asked-parts k m n h l = let i = tag-small m h in omega arith
 
 future-parts : (x y : ℕ) → NameFits x → NameFits y → (node 12 (x + 128 * y) / payload ≡ 12) × (node 12 (x + 128 * y) % 128 ≡ x) × (node 12 (x + 128 * y) / 128 % 128 ≡ y)
 future-parts x y f g = omega arith
-
-literal-parts : (k a b : ℕ) → a < 8 → b < 8 → (node k (a + 8 * b) / payload ≡ k) × (node k (a + 8 * b) % 8 ≡ a) × (node k (a + 8 * b) / 8 % 8 ≡ b)
-literal-parts k a b f g = omega arith
 
 module _ (t : List ℕ) (ws : List Bytes) (sp : Spells t ws) where
   pub name-shown : (x : ℕ) → NameFits x → nameIn t x ≡ 32 ∷ printWord ws x
@@ -111,38 +111,44 @@ module _ (t : List ℕ) (ws : List Bytes) (sp : Spells t ws) where
     opening : (key : Bytes) → (40 ∷ key) ++ (nameIn t x ++ []) ≡ (40 ∷ key) ++ behind (printWord ws x ∷ []) []
     opening key = ap {B = Bytes} (λ u. (40 ∷ key) ++ (u ++ [])) (name-shown x g)
 
-    pub let-says : Says t (node 11 x) (bytes "let") (printWord ws x ∷ []) [] 2
+    pub let-says : Says t (node 11 x) letWord (printWord ws x ∷ []) [] 2
     unfolding Shown·all bytes
-    let-says = let (e, f) = node-parts 11 x g in plainly (rw e) (rw (e, f) (opening (bytes "let"))) (rw e) (rw e)
+    let-says = let (e, f) = node-parts 11 x g in plainly (rw e) (rw (e, f) (opening letWord)) (rw e) (rw e) (omega arith)
 
-    pub fn-says : Says t (node 65 x) (bytes "fn") (printWord ws x ∷ []) [] 1
+    pub fn-says : Says t (node 65 x) fnWord (printWord ws x ∷ []) [] 1
     unfolding Shown·all bytes
-    fn-says = let (e, f) = node-parts 65 x g in plainly (rw e) (rw (e, f) (opening (bytes "fn"))) (rw e) (rw e)
+    fn-says = let (e, f) = node-parts 65 x g in plainly (rw e) (rw (e, f) (opening fnWord)) (rw e) (rw e) (omega arith)
 
-    pub field-says : Says t (node 128 x) (bytes "field") (printWord ws x ∷ []) [] 1
+    pub field-says : Says t (node 128 x) fieldWord (printWord ws x ∷ []) [] 1
     unfolding Shown·all bytes
-    field-says = let (e, f) = node-parts 128 x g in plainly (rw e) (rw (e, f) (opening (bytes "field"))) (rw e) (rw e)
+    field-says = let (e, f) = node-parts 128 x g in plainly (rw e) (rw (e, f) (opening fieldWord)) (rw e) (rw e) (omega arith)
 
-    pub def-says : Says t (node 130 x) (bytes "def") (printWord ws x ∷ []) [] 1
+    pub def-says : Says t (node 130 x) defWord (printWord ws x ∷ []) [] 1
     unfolding Shown·all bytes
-    def-says = let (e, f) = node-parts 130 x g in plainly (rw e) (rw (e, f) (opening (bytes "def"))) (rw e) (rw e)
+    def-says = let (e, f) = node-parts 130 x g in plainly (rw e) (rw (e, f) (opening defWord)) (rw e) (rw e) (omega arith)
 
-    pub when-says : Says t (node 67 x) (bytes "when") [] (printWord ws x ∷ []) 2
+    pub when-says : Says t (node 67 x) whenWord [] (printWord ws x ∷ []) 2
     unfolding Shown·all bytes
-    when-says = let (e, f) = node-parts 67 x g in naming (rw e) x (name-shown x g) (rw e) (rw (e, f)) (rw e) (omega arith)
+    when-says = let (e, f) = node-parts 67 x g in naming (rw e) x (name-shown x g) (rw e) (rw (e, f)) (rw e) (omega arith) (omega arith)
 
-    pub future-says : (y : ℕ) → NameFits y → Says t (node 12 (x + 128 * y)) (bytes "future") (printWord ws x ∷ printWord ws y ∷ []) [] 1
+    pub future-says : (y : ℕ) → NameFits y → Says t (node 12 (x + 128 * y)) futureWord (printWord ws x ∷ printWord ws y ∷ []) [] 1
     unfolding Shown·all bytes
     future-says y i =
         let (e, a, b) = future-parts x y g i in
-        plainly (rw e) (rw (e, a, b) (ap₂ {C = Bytes} (λ u v. (40 ∷ bytes "future") ++ (u ++ (v ++ []))) (name-shown x g) (name-shown y i))) (rw e) (rw e)
+        plainly (rw e) (rw (e, a, b) (ap₂ {C = Bytes} (λ u v. (40 ∷ futureWord) ++ (u ++ (v ++ []))) (name-shown x g) (name-shown y i))) (rw e) (rw e) (omega arith)
 
   -- ---- literals and methods
   pub literal-says : (k : Kind) (a b : ℕ) → a < 8 → b < 8 → Says t (node (kindNumber k) (a + 8 * b)) (printKind k) [] [] (a + b)
   unfolding kindNumber printKind Shown·all bytes
-  literal-says Kind.object a b f g = let (e, c, d) = literal-parts 15 a b f g in plainly (rw e) (rw e) (rw e) (rw (e, c, d))
-  literal-says Kind.isolate a b f g = let (e, c, d) = literal-parts 16 a b f g in plainly (rw e) (rw e) (rw e) (rw (e, c, d))
-  literal-says Kind.actor a b f g = let (e, c, d) = literal-parts 17 a b f g in plainly (rw e) (rw e) (rw e) (rw (e, c, d))
+  literal-says k a b f g = go k (head-wants _ (parts k a b) (head-literal k a b f g) .0)
+    where
+      kind : (k : ℕ) → node k (a + 8 * b) / payload ≡ k
+      kind k = omega arith
+
+      go : (k : Kind) → arity (node (kindNumber k) (a + 8 * b)) ≡ a + b → Says t (node (kindNumber k) (a + 8 * b)) (printKind k) [] [] (a + b)
+      go Kind.object c = let e = kind 15 in plainly (rw e) (rw e) (rw e) c (omega arith)
+      go Kind.isolate c = let e = kind 16 in plainly (rw e) (rw e) (rw e) c (omega arith)
+      go Kind.actor c = let e = kind 17 in plainly (rw e) (rw e) (rw e) c (omega arith)
 
   params-text : (x : ℕ) (v : Bytes) (items : List Bytes) (y z : Bytes) → wordIn t x ≡ v → y ++ (z ++ (41 ∷ [])) ≡ behind items (41 ∷ [])
       → openIn t x ++ (y ++ (z ++ (41 ∷ []))) ≡ 32 ∷ form (v ∷ items)
@@ -153,14 +159,14 @@ module _ (t : List ℕ) (ws : List Bytes) (sp : Spells t ws) where
   -- the word before its places: name m, count n, places p
   module _ (m n p : ℕ) (f : m < 127) (g : n ≤ 3) where
     method-says : (x y z : ℕ) (u : Bytes) → p < 2097152 → p % 128 ≡ x → p / 128 % 128 ≡ y → p / 16384 % 128 ≡ z → placesIn t x y z ≡ 32 ∷ u
-        → Says t (m + 128 * (n + 4 * (p + 2097152 * 3))) (bytes "method") (printWord ws m ∷ u ∷ []) [] 1
+        → Says t (m + 128 * (n + 4 * (p + 2097152 * 3))) methodWord (printWord ws m ∷ u ∷ []) [] 1
     method-says x y z u l a b c e =
         let h = m + 128 * (n + 4 * (p + 2097152 * 3)) in
         let q : h / 512 ≡ p + 6291456 = omega arith in
         says-method t h m x y z (omega arith) (omega arith) (omega arith) (omega arith) (omega arith) (printWord ws m) u (name-shown m f) e
 
   pub header-says : (m : ℕ) (xs : List ℕ) → NameFits m → Each NameFits xs → length xs ≤ 3
-      → Says t (methodHeader m xs) (bytes "method") (printWord ws m ∷ form (map (printWord ws) xs) ∷ []) [] 1
+      → Says t (methodHeader m xs) methodWord (printWord ws m ∷ form (map (printWord ws) xs) ∷ []) [] 1
   unfolding methodHeader places placesIn openIn nameIn form printItems
   header-says m [] f g l =
       method-says m 0 (127 + 128 * (127 + 128 * 127)) f (omega arith) 127 127 127 (form []) (omega arith) (omega arith) (omega arith) (omega arith)

@@ -2,8 +2,8 @@
 ghost use Prim.Native.Nat.{_≤_};
 ghost use lib.ListN.{length};
 ghost use Rattle.showing.specs.Writing.{Wrote};
-ghost use Rattle.showing.specs.Shown.{first, second, after, arity, openIn, placesIn, paramsIn, operatorIn, headIn};
-ghost use Rattle.showing.specs.Codes.{Name, Tagged, Arity};
+ghost use Rattle.showing.specs.Shown.{first, second, after, count, openIn, placesIn, paramsIn, operatorIn, headIn};
+ghost use Rattle.showing.specs.Codes.{Name, Tagged, Counted};
 use crate::text;
 use layout::PAYLOAD;
 
@@ -12,19 +12,15 @@ fn first_name(h: u32) -> usize
     ensures { λ r. ⌜ Name (first h) r ⌝ }
 {
     let k = h / PAYLOAD;
-    if k < 11 {
-        return text::NO_NAME;
-    }
-    if k < 13 {
+    if 128 <= k {
         return (h % 128) as usize;
     }
-    if k == 65 {
-        return (h % 128) as usize;
+    match k {
+        11 => (h % 128) as usize,
+        12 => (h % 128) as usize,
+        65 => (h % 128) as usize,
+        _ => text::NO_NAME,
     }
-    if k < 128 {
-        return text::NO_NAME;
-    }
-    (h % 128) as usize
 }
 
 // The second name behind the operator, which only a future has.
@@ -42,66 +38,27 @@ pub fn name_after(h: u32) -> usize
     ensures { λ r. ⌜ Tagged (after h) r ⌝ }
 {
     let k = h / PAYLOAD;
-    if k < 9 {
-        return text::NO_NAME;
-    }
-    if k < 11 {
+    if layout::kinds::operator(k) == 2 {
         return (h % 128) as usize;
     }
-    if k < 13 {
-        return text::NO_NAME;
+    match k {
+        13 => (h % 512) as usize,
+        14 => (h % 512) as usize,
+        64 => (h % 512) as usize,
+        67 => (h % 128) as usize,
+        _ => text::NO_NAME,
     }
-    if k < 15 {
-        return (h % 512) as usize;
-    }
-    if k == 18 {
-        return (h % 512) as usize;
-    }
-    if k == 64 {
-        return (h % 512) as usize;
-    }
-    if k == 67 {
-        return (h % 128) as usize;
-    }
-    text::NO_NAME
 }
 
-// How many operands the word `h` has, if its kind is 7 or more.
+// How many operands of the word `h` are shown. No form has more than 14; words that are none may say any number.
 pub fn operand_count(h: u32) -> usize
-    ensures { λ r. ⌜ Arity (arity h) r ⌝ }
+    ensures { λ r. ⌜ Counted (count h) r ⌝ }
 {
-    let k = h / PAYLOAD;
-    if k < 9 {
-        return 2;
+    let n = layout::kinds::arity(h);
+    if 14 < n {
+        return 14;
     }
-    if k == 9 {
-        return 1;
-    }
-    if k < 12 {
-        return 2;
-    }
-    if k == 12 {
-        return 1;
-    }
-    if k < 15 {
-        return (1 + h / 512 % 8) as usize;
-    }
-    if k < 18 {
-        return (h % 8 + h / 8 % 8) as usize;
-    }
-    if k == 18 {
-        return (1 + h / 512 % 8) as usize;
-    }
-    if k == 64 {
-        return (1 + h / 512 % 8) as usize;
-    }
-    if k < 66 {
-        return 1;
-    }
-    if k < 69 {
-        return 2;
-    }
-    1
+    n
 }
 
 // The first of the names in brackets, behind a space and the bracket.
@@ -138,12 +95,15 @@ fn put_params(t: &[u32], h: u32, out: &mut [u8], o: usize) -> usize
     put_places(t, x, y, z, out, o)
 }
 
-// A bracket and the operator of kind `k`.
+// A bracket and the operator of kind `k`. The kinds of a method's header begin with 192.
 fn put_operator(k: u32, out: &mut [u8], o: usize) -> usize
     requires { ⌜ o ≤ 1099511627776 ⌝ }
     ensures { λ r. ⌜ Wrote (now (out .entry)) o (operatorIn k) (now (out .exit)) r ⌝ }
 {
     let p = text::put(b'(', out, o);
+    if 192 < k {
+        return text::put_keyword(192, out, p);
+    }
     text::put_keyword(k, out, p)
 }
 

@@ -43,7 +43,7 @@ pub fn put_leaf(t: &[u32], h: u32, out: &mut [u8], o: usize) -> usize
     ensures { λ r. ⌜ Wrote (now (out .entry)) o (leafIn (now (t .entry)) h) (now (out .exit)) r ⌝ }
 {
     match h / PAYLOAD {
-        1 => text::put_bytes(b"null", out, o),
+        1 => text::put_keyword(1, out, o),
         2 => text::put_number(h % PAYLOAD, out, o),
         3 => put_ref(h, out, o),
         _ => text::put_word(t, (h % 128) as usize, out, o),

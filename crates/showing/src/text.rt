@@ -3,8 +3,9 @@ ghost use mathlib.Core.List.{[], _∷_};
 ghost use Prim.Native.Nat.{_≤_, _<_};
 ghost use lib.ListN.{length};
 ghost use Rattle.atlite.specs.Printer.{printNumber};
+ghost use Rattle.layout.specs.Kinds.{wordIn as wordOf};
 ghost use Rattle.showing.specs.Writing.{Wrote};
-ghost use Rattle.showing.specs.Shown.{letterIn, lettersIn, knownIn, wordIn, taggedIn, nameIn, keyword};
+ghost use Rattle.showing.specs.Shown.{letterIn, lettersIn, knownIn, wordIn, taggedIn, nameIn};
 
 // The number that is no name.
 pub const NO_NAME: usize = 127;
@@ -79,7 +80,7 @@ fn put_known(x: usize, out: &mut [u8], o: usize) -> usize
     ensures { λ r. ⌜ Wrote (now (out .entry)) o (knownIn x) (now (out .exit)) r ⌝ }
 {
     match x {
-        0 => put_bytes(b"this", out, o),
+        0 => put_keyword(6, out, o),
         1 => put_bytes(b".t", out, o),
         2 => put_bytes(b".f", out, o),
         3 => put_bytes(b".r", out, o),
@@ -136,12 +137,14 @@ pub fn put_name(t: &[u32], c: usize, out: &mut [u8], o: usize) -> usize
     put_tagged(t, c, out, p)
 }
 
-// The operator of kind `k`.
+// The word of kind `k`, or nothing where it has none.
 pub fn put_keyword(k: u32, out: &mut [u8], o: usize) -> usize
     requires { ⌜ o ≤ 1099511627776 ⌝ }
-    ensures { λ r. ⌜ Wrote (now (out .entry)) o (keyword k) (now (out .exit)) r ⌝ }
+    ensures { λ r. ⌜ Wrote (now (out .entry)) o (wordOf k) (now (out .exit)) r ⌝ }
 {
     match k {
+        1 => put_bytes(b"null", out, o),
+        6 => put_bytes(b"this", out, o),
         7 => put_bytes(b"plus", out, o),
         8 => put_bytes(b"percent", out, o),
         9 => put_bytes(b"get", out, o),
@@ -153,7 +156,6 @@ pub fn put_keyword(k: u32, out: &mut [u8], o: usize) -> usize
         15 => put_bytes(b"object", out, o),
         16 => put_bytes(b"isolate", out, o),
         17 => put_bytes(b"actor", out, o),
-        18 => put_bytes(b"message", out, o),
         64 => put_bytes(b"ask", out, o),
         65 => put_bytes(b"fn", out, o),
         66 => put_bytes(b"resolve", out, o),
@@ -161,6 +163,7 @@ pub fn put_keyword(k: u32, out: &mut [u8], o: usize) -> usize
         68 => put_bytes(b"seq", out, o),
         128 => put_bytes(b"field", out, o),
         130 => put_bytes(b"def", out, o),
-        _ => put_bytes(b"method", out, o),
+        192 => put_bytes(b"method", out, o),
+        _ => o,
     }
 }

@@ -5,8 +5,14 @@ use Rattle.showing.proofs.heads.put_operator.Statement.{statement}
 use Rattle.showing.proofs.heads.put_operator.Tie as tie
 
 pub put-operator-spec : {M : Type 1} → statement M
-put-operator-spec = tie.close (tie.spec (λ c κs. search needs)  -- put-requires
+put-operator-spec =
+    tie.close
+    (tie.spec
+    (λ c κs. search needs)  -- put-requires
     (λ c κs. search needs)  -- put-keyword-requires
     (λ c. search needs)  -- same-length
     (λ c. search laws)  -- returns
+    (λ c κs. search needs)  -- put-keyword-requires-2
+    (λ c. search needs)  -- same-length-2
+    (λ c. search laws)  -- returns-2
     )

@@ -8,8 +8,7 @@ pub put-leaf-spec : {M : Type 1} → statement M
 put-leaf-spec =
     tie.close
     (tie.spec
-    (λ c. search needs)  -- slice-aggregate-put-bytes
-    (λ c κs. search needs)  -- put-bytes-requires
+    (λ c κs. search needs)  -- put-keyword-requires
     (λ c κs. search needs)  -- put-number-requires
     (λ c κs. search needs)  -- put-ref-requires
     (λ c. search needs)  -- cast-put-word

@@ -1,13 +1,13 @@
 -- `text::put_keyword` meets its contract, by the laws of `PutLaws`. Assumes nothing.
 use borrow.Author.Needs.{needs}
 use Rattle.atlite.specs.Base.{bytes}
-use Rattle.showing.specs.Shown.{keyword}
-use Rattle.showing.specs.PutLaws.{keys}
+use Rattle.layout.specs.Kinds.{Words}
+use Rattle.showing.specs.PutLaws.{Passing, keys}
 use Rattle.showing.proofs.text.put_keyword.Statement.{statement}
 use Rattle.showing.proofs.text.put_keyword.Tie as tie
 
 pub put-keyword-spec : {M : Type 1} → statement M
-unfolding keyword bytes
+unfolding Words bytes Passing
 put-keyword-spec =
     tie.close
     (tie.spec
@@ -51,6 +51,8 @@ put-keyword-spec =
     (λ c κs. search needs)  -- put-bytes-requires-19
     (λ c. search needs)  -- slice-aggregate-put-bytes-20
     (λ c κs. search needs)  -- put-bytes-requires-20
+    (λ c. search needs)  -- slice-aggregate-put-bytes-21
+    (λ c κs. search needs)  -- put-bytes-requires-21
     (λ c. search needs)  -- same-length
     (λ c. search keys)  -- returns
     (λ c. search needs)  -- same-length-2
@@ -91,4 +93,7 @@ put-keyword-spec =
     (λ c. search keys)  -- returns-19
     (λ c. search needs)  -- same-length-20
     (λ c. search keys)  -- returns-20
+    (λ c. search needs)  -- same-length-21
+    (λ c. search keys)  -- returns-21
+    (λ c. search keys)  -- returns-22
     )

@@ -1,16 +1,18 @@
 -- `text::put_known` meets its contract, by the laws of `PutLaws`. Assumes nothing.
 use borrow.Author.Needs.{needs}
 use Rattle.atlite.specs.Base.{bytes}
+use Rattle.layout.specs.Kinds.{Words}
 use Rattle.showing.specs.Shown.{knownIn}
 use Rattle.showing.specs.PutLaws.{knowns}
 use Rattle.showing.proofs.text.put_known.Statement.{statement}
 use Rattle.showing.proofs.text.put_known.Tie as tie
 
 pub put-known-spec : {M : Type 1} → statement M
-unfolding knownIn bytes
+unfolding knownIn Words bytes
 put-known-spec =
     tie.close
     (tie.spec
+    (λ c κs. search needs)  -- put-keyword-requires
     (λ c. search needs)  -- slice-aggregate-put-bytes
     (λ c κs. search needs)  -- put-bytes-requires
     (λ c. search needs)  -- slice-aggregate-put-bytes-2
@@ -25,8 +27,6 @@ put-known-spec =
     (λ c κs. search needs)  -- put-bytes-requires-6
     (λ c. search needs)  -- slice-aggregate-put-bytes-7
     (λ c κs. search needs)  -- put-bytes-requires-7
-    (λ c. search needs)  -- slice-aggregate-put-bytes-8
-    (λ c κs. search needs)  -- put-bytes-requires-8
     (λ c. search needs)  -- same-length
     (λ c. search knowns)  -- returns
     (λ c. search needs)  -- same-length-2
