@@ -1,17 +1,21 @@
 -- No listing of 16,384 words is longer than a position may be, whatever words they are. A word of a term shows at most 128 bytes
 -- that no other word shows, so a term has at most 128 bytes for each word; the rest is counted very roughly, each message, field
 -- and group of methods as if it had all words of the state. Assumes nothing.
+use mathlib.Core.Path.{_≡_, refl}
 use mathlib.Core.Bool.{Bool, true, false, cond}
 use mathlib.Core.List.{List, [], _∷_, _++_}
-use Prim.Native.Nat.{ℕ, zero, suc, _+_, _-_, _*_, _/_, _%_, _≤_}
+use Prim.Native.Nat.{ℕ, zero, suc, _+_, _-_, _*_, _/_, _%_, _≤_, min}
 use native.Mathlib.Omega.{arith}
-use lib.Dec.{eqb, ltb}
+use borrow.Author.Tests.{leb-true}
+use lib.Dec.{eqb, leb, ltb}
 use lib.ListN.{length, drop, getD, length-append, length-drop}
-use Rattle.atlite.specs.Base.{bytes}
+use Rattle.atlite.specs.Base.{bytes, all}
+use Rattle.atlite.specs.Facts.{and₂}
 use Rattle.atlite.specs.Lexicon.{Bytes}
 use Rattle.atlite.specs.Printer.{digits, printNumber}
+use Rattle.layout.specs.Kinds.{Words, keywords, wordAt, wordIn as wordOf}
 use Rattle.showing.specs.Writing.{most}
-use Rattle.showing.specs.Shown.{payload, noName, letterIn, lettersIn, knownIn, wordIn, taggedIn, nameIn, keyword, first, second, openIn, placesIn, paramsIn, after, arity, operatorIn, headIn, seriesIn, ownerIn, refIn, leafIn, Text, operandsIn, formIn, shown}
+use Rattle.showing.specs.Shown.{payload, noName, letterIn, lettersIn, knownIn, wordIn, taggedIn, nameIn, first, second, openIn, placesIn, paramsIn, after, count, operatorIn, headIn, seriesIn, ownerIn, refIn, leafIn, Text, operandsIn, formIn, shown}
 use Rattle.lister.specs.Listed.{deep, messageIn, waits, waitingIn, inboxIn, fieldsIn, kindIn, stateIn, entryIn, openingIn, Entry, partsIn, slotIn, slotsIn, spacedIn, titleIn, countsIn, exprIn, lineIn, entitiesIn, actorIn, actorsIn, listedIn}
 
 -- ---- one word
@@ -58,14 +62,13 @@ name-bound : (t : List ℕ) (c : ℕ) → length (nameIn t c) ≤ 15
 unfolding nameIn
 name-bound t c = either 15 (eqb c noName) _ _ (omega arith) (omega (arith, tagged-bound t c))
 
-keyword-bound : (k : ℕ) → length (keyword k) ≤ 7
-unfolding keyword bytes
-keyword-bound k =
-    either 7 (eqb k 7) _ _ (omega arith) (either 7 (eqb k 8) _ _ (omega arith) (either 7 (eqb k 9) _ _ (omega arith) (either 7 (eqb k 10) _ _ (omega arith)
-    (either 7 (eqb k 11) _ _ (omega arith) (either 7 (eqb k 12) _ _ (omega arith) (either 7 (eqb k 13) _ _ (omega arith) (either 7 (eqb k 14) _ _ (omega arith)
-    (either 7 (eqb k 15) _ _ (omega arith) (either 7 (eqb k 16) _ _ (omega arith) (either 7 (eqb k 17) _ _ (omega arith) (either 7 (eqb k 18) _ _ (omega arith)
-    (either 7 (eqb k 64) _ _ (omega arith) (either 7 (eqb k 65) _ _ (omega arith) (either 7 (eqb k 66) _ _ (omega arith) (either 7 (eqb k 67) _ _ (omega arith)
-    (either 7 (eqb k 68) _ _ (omega arith) (either 7 (eqb k 128) _ _ (omega arith) (either 7 (eqb k 130) _ _ (omega arith) (omega arith)))))))))))))))))))
+key-bound : (k : ℕ) → length (wordOf k) ≤ 12
+unfolding Words bytes all
+key-bound k = go keywords refl
+  where
+    go : (l : List (Bytes × ℕ)) → all (λ r. leb (length (r .0)) 12) l ≡ true → length (wordAt l k) ≤ 12
+    go [] h = omega arith
+    go (r ∷ rs) h = let (a, b) = and₂ (leb (length (r .0)) 12) _ h in either 12 (eqb (r .1) k) _ _ (leb-true _ _ a) (go rs b)
 
 places-bound : (t : List ℕ) (x y z : ℕ) → length (placesIn t x y z) ≤ 45
 unfolding placesIn openIn
@@ -76,13 +79,13 @@ params-bound : (t : List ℕ) (h : ℕ) → length (paramsIn t h) ≤ 45
 unfolding paramsIn
 params-bound t h = either 45 (ltb (h / payload) 192) _ _ (omega arith) (places-bound t (h / 512 % 128) (h / 65536 % 128) (h / 8388608 % 128))
 
-head-bound : (t : List ℕ) (h : ℕ) → length (headIn t h) ≤ 83
+head-bound : (t : List ℕ) (h : ℕ) → length (headIn t h) ≤ 88
 unfolding headIn operatorIn
 head-bound t h =
-    let k = keyword (h / payload) in
+    let k = wordOf (min 192 (h / payload)) in
     let x = nameIn t (first h) in
     let y = nameIn t (second h) in
-    omega (arith, length-append k (x ++ (y ++ paramsIn t h)), length-append x (y ++ paramsIn t h), length-append y (paramsIn t h), keyword-bound (h / payload), name-bound t (first h), name-bound t (second h), params-bound t h)
+    omega (arith, length-append k (x ++ (y ++ paramsIn t h)), length-append x (y ++ paramsIn t h), length-append y (paramsIn t h), key-bound (min 192 (h / payload)), name-bound t (first h), name-bound t (second h), params-bound t h)
 
 digits-bound : (k n : ℕ) (w : Bytes) → length (digits k n w) ≤ k + length w
 unfolding digits
@@ -115,18 +118,6 @@ leaf-bound t h =
     either 25 (eqb (h / payload) 1) _ _ (omega arith) (either 25 (eqb (h / payload) 2) _ _ (omega (arith, number-bound (h % payload)))
     (either 25 (eqb (h / payload) 3) _ _ (ref-bound h) (omega (arith, word-bound t (h % 128)))))
 
-choose : (n : ℕ) (b : Bool) (x y : ℕ) → x ≤ n → y ≤ n → cond b x y ≤ n
-choose n true x y h k = h
-choose n false x y h k = k
-
-arity-bound : (h : ℕ) → arity h ≤ 14
-unfolding arity
-arity-bound h =
-    choose 14 (ltb (h / payload) 9) _ _ (omega arith) (choose 14 (eqb (h / payload) 9) _ _ (omega arith) (choose 14 (ltb (h / payload) 12) _ _ (omega arith)
-    (choose 14 (eqb (h / payload) 12) _ _ (omega arith) (choose 14 (ltb (h / payload) 15) _ _ (omega arith) (choose 14 (ltb (h / payload) 18) _ _ (omega arith)
-    (choose 14 (eqb (h / payload) 18) _ _ (omega arith) (choose 14 (eqb (h / payload) 64) _ _ (omega arith) (choose 14 (ltb (h / payload) 66) _ _ (omega arith)
-    (choose 14 (ltb (h / payload) 69) _ _ (omega arith) (omega arith))))))))))
-
 -- ---- terms
 -- a text has at most 128 bytes for each word that it took, and k more
 abbrev pub Within : ℕ → List ℕ → Text → Type 0
@@ -141,11 +132,11 @@ module _ (t : List ℕ) where
       let b = operandsIn t S noName n (a .rest) in
       omega (arith, h w, operands-bound S h noName n (a .rest), length-append (a .text) (nameIn t x ++ b .text), length-append (nameIn t x) (b .text))
 
-  form-bound : (S : List ℕ → Text) → ((w : List ℕ) → Within 0 w (S w)) → (h : ℕ) (w : List ℕ) → Within 113 w (formIn t S h w)
+  form-bound : (S : List ℕ → Text) → ((w : List ℕ) → Within 0 w (S w)) → (h : ℕ) (w : List ℕ) → Within 118 w (formIn t S h w)
   unfolding formIn
   form-bound S k h w =
-      let a = operandsIn t S (after h) (arity h) w in
-      omega (arith, operands-bound S k (after h) (arity h) w, length-append (headIn t h) (a .text ++ (41 ∷ [])), length-append (a .text) (41 ∷ []), head-bound t h, arity-bound h, name-bound t (after h))
+      let a = operandsIn t S (after h) (count h) w in
+      omega (arith, operands-bound S k (after h) (count h) w, length-append (headIn t h) (a .text ++ (41 ∷ [])), length-append (a .text) (41 ∷ []), head-bound t h, name-bound t (after h))
 
   shown-bound : (n : ℕ) (w : List ℕ) → Within 0 w (shown t n w)
   unfolding shown
@@ -153,7 +144,7 @@ module _ (t : List ℕ) where
   shown-bound (suc n) [] = omega arith
   shown-bound (suc n) (h ∷ w) = go (ltb (h / payload) 7) (form-bound (shown t n) (shown-bound n) h w)
     where
-      go : (b : Bool) → Within 113 w (formIn t (shown t n) h w) → Within 0 (h ∷ w) (cond b (record { text = leafIn t h; rest = w }) (formIn t (shown t n) h w))
+      go : (b : Bool) → Within 118 w (formIn t (shown t n) h w) → Within 0 (h ∷ w) (cond b (record { text = leafIn t h; rest = w }) (formIn t (shown t n) h w))
       go true i = omega (arith, leaf-bound t h)
       go false i = omega arith
 
@@ -173,28 +164,32 @@ module _ (t : List ℕ) where
   pick n true x y h k = h
   pick n false x y h k = k
 
-  leaf-forms : (h : ℕ) (w : List ℕ) → Few w → Fine 2097265 (formIn t (shown t 1) h w)
+  leaf-forms : (h : ℕ) (w : List ℕ) → Few w → Fine 2097270 (formIn t (shown t 1) h w)
   leaf-forms h w f = let b = form-bound (shown t 1) (shown-bound 1) h w in (omega arith, omega arith)
 
-  message-bound : (w : List ℕ) → Few w → length (messageIn t w) ≤ 2097265
-  unfolding messageIn
-  message-bound w f = leaf-forms (301989888 + getD w 0 0 % payload) (drop 1 w) (dropped 1 w f) .0
+  message-bound : (w : List ℕ) → Few w → length (messageIn t w) ≤ 2097270
+  unfolding messageIn bytes
+  message-bound w f =
+      let x = getD w 0 0 % 512 in
+      let n = 1 + getD w 0 0 / 512 % 8 in
+      let a = operandsIn t (shown t 1) x n (drop 1 w) in
+      omega (arith, length-append (a .text) (41 ∷ []), operands-bound (shown t 1) (shown-bound 1) x n (drop 1 w), name-bound t x, dropped 1 w f)
 
-  waiting-bound : (k n : ℕ) (w : List ℕ) → Few w → Fine (k * 2097266) (waitingIn t k n w)
+  waiting-bound : (k n : ℕ) (w : List ℕ) → Few w → Fine (k * 2097271) (waitingIn t k n w)
   unfolding waitingIn
   waiting-bound zero n w f = (omega arith, f)
   waiting-bound (suc k) n w f =
       let b = waitingIn t k n (drop 6 w) in
       let i = waiting-bound k n (drop 6 w) (dropped 6 w f) in
-      pick (suc k * 2097266) (waits n w) _ _ (omega (arith, i .0, length-append (messageIn t w) (b .text), message-bound w f), i .1) (omega arith, f)
+      pick (suc k * 2097271) (waits n w) _ _ (omega (arith, i .0, length-append (messageIn t w) (b .text), message-bound w f), i .1) (omega arith, f)
 
-  inbox-bound : (n : ℕ) (w : List ℕ) → Few w → length (inboxIn t n w) ≤ n * 2097266
+  inbox-bound : (n : ℕ) (w : List ℕ) → Few w → length (inboxIn t n w) ≤ n * 2097271
   unfolding inboxIn
   inbox-bound zero w f = omega arith
   inbox-bound (suc n) w f =
       omega (arith, length-append (messageIn t w) (10 ∷ inboxIn t n (drop 6 w)), message-bound w f, inbox-bound n (drop 6 w) (dropped 6 w f))
 
-  fields-bound : (n x : ℕ) (w : List ℕ) → Few w → length (fieldsIn t n x w) ≤ n * 2097266
+  fields-bound : (n x : ℕ) (w : List ℕ) → Few w → length (fieldsIn t n x w) ≤ n * 2097271
   unfolding fieldsIn
   fields-bound zero x w f = omega arith
   fields-bound (suc n) x w f =

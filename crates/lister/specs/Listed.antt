@@ -17,9 +17,9 @@ abbrev pub deep : ℕ
 deep = 1536
 
 -- ---- messages
--- the message that w begins with
+-- the message that w begins with: its receiver, its name and its arguments stand as a send's operands do
 unfoldable pub messageIn : List ℕ → List ℕ → Bytes
-messageIn t w = formIn t (shown t 1) (301989888 + getD w 0 0 % payload) (drop 1 w) .text
+messageIn t w = bytes "(message" ++ (operandsIn t (shown t 1) (getD w 0 0 % 512) (1 + getD w 0 0 / 512 % 8) (drop 1 w) .text ++ (41 ∷ []))
 
 -- the number in a reference
 unfoldable pub aimIn : ℕ → ℕ

@@ -1,8 +1,8 @@
 -- The words of messages and fields show their lines' items, and a state's waiting messages are told apart by their aims. t is a
 -- state that spells the words of ws. Assumes nothing.
-use mathlib.Core.Path.{_≡_, refl, ap, _∙_}
+use mathlib.Core.Path.{_≡_, refl, sym, ap, _∙_}
 use mathlib.Core.Bool.{true, false}
-use mathlib.Core.List.{List, [], _∷_, _++_, append-assoc, map}
+use mathlib.Core.List.{List, [], _∷_, _++_, append-assoc, append-nil, map}
 use Prim.Native.Nat.{ℕ, zero, suc, _+_, _-_, _*_, _/_, _%_, _≤_, _<_}
 use native.Mathlib.Omega.{arith}
 use borrow.Author.Tests.{eq-eqb, ne-eqb}
@@ -10,26 +10,25 @@ use lib.ListN.{length, getD}
 use lib.Seq.{drop-at}
 use Rattle.atlite.specs.Base.{bytes}
 use Rattle.atlite.specs.Lexicon.{Bytes}
-use Rattle.atlite.specs.Printer.{form, placed, printWord}
+use Rattle.atlite.specs.Keywords.{fieldWord}
+use Rattle.atlite.specs.Printer.{form, placed, printWord, printName}
 use Rattle.atlite.specs.Listing.{printValue, printField, printMessage, printInbox}
 use Rattle.atlite.specs.Term.{made, copied, Value, null, num, ref}
 use Rattle.atlite.specs.State.{Message, message, Field, field, fieldNames, fieldValues}
 use Rattle.reading.specs.Items.{behind}
-use Rattle.layout.specs.Pack.{node, zeros, pad, flat, names}
+use Rattle.layout.specs.Pack.{zeros, pad, flat, names}
 use Rattle.layout.specs.PackLaws.{pack-low, pack-high, Each, NameFits}
-use Rattle.layout.specs.Terms.{seriesBit, encodeValue, asked, fieldHeader}
+use Rattle.layout.specs.Terms.{seriesBit, encodeValue, tagged, fieldHeader}
 use Rattle.layout.specs.TermLaws.{ValueFits}
-use Rattle.layout.specs.TermReads.{asked-small}
 use Rattle.layout.specs.Layout.{valueWords, encodeMessage}
 use Rattle.layout.specs.Decode.{aimOf, aim}
 use Rattle.layout.specs.Slots.{MessageFits, message-length, From, At}
-use Rattle.showing.specs.Shown.{payload, Text, formIn, shown}
+use Rattle.showing.specs.Shown.{payload, formIn, shown}
 use Rattle.lister.specs.Listed.{messageIn, aimIn, waits, waitingIn, inboxIn, fieldsIn}
 use Rattle.showing.specs.Spelling.{Spells}
-use Rattle.showing.specs.Says.{showing}
-use Rattle.showing.specs.Words.{asked-parts, value-shown, field-says}
-use Rattle.showing.specs.Forms.{Operands, none, more, last, form-shown}
-use Rattle.showing.specs.Operators.{message-says}
+use Rattle.showing.specs.Says.{form-text, showing}
+use Rattle.showing.specs.Words.{asked-parts, tag-shown, value-shown, field-says}
+use Rattle.showing.specs.Forms.{Operands, none, more, last, names-shown, form-shown}
 
 -- ---- aims
 pub aim-value : (v : Value) → ValueFits v → aimIn (encodeValue v) ≡ aimOf v
@@ -83,15 +82,15 @@ module _ (t : List ℕ) (ws : List Bytes) (sp : Spells t ws) where
   values-shown (v ∷ vs) r h = more (encodeValue v ∷ []) (value-shown t ws sp v 1 (valueWords vs ++ r) (h .0) (omega arith)) (values-shown vs r (h .1))
 
   pub message-shown : (m : Message) (r : List ℕ) → MessageFits m → messageIn t (encodeMessage m ++ r) ≡ printMessage ws m
-  unfolding messageIn encodeMessage valueWords pad printMessage placed formIn form
+  unfolding messageIn encodeMessage valueWords pad printMessage placed bytes
   message-shown (message v m vs) r h =
       let c = length vs in
-      let l : c < 8 = omega (arith, h .2) in
-      let i = asked-small m c (h .1) l in
-      let z : 301989888 + node 14 (asked m c) % payload ≡ node 18 (asked m c) = omega arith in
+      let (_, x, _, k) = asked-parts 14 m c (h .1) (omega (arith, h .2)) in
+      let z : 1 + c ≡ suc c = omega arith in
       let w = zeros (6 - suc (suc (length (valueWords vs)))) in
-      rw (z, append-assoc (valueWords vs) w r)
-      (ap (λ (x : Text). x .text) (form-shown (message-says t ws sp m c (h .1) l) (values-shown (v ∷ vs) (w ++ r) (h .0, h .3))))
+      let n = tag-shown t ws sp m (h .1) ∙ ap {B = Bytes} (λ u. 32 ∷ u) (sym (append-nil (printName ws m))) in
+      rw (x, k, z, append-assoc (valueWords vs) w r, names-shown t (tagged m) (printName ws m ∷ []) n (λ z. absurd (omega arith)) (values-shown (v ∷ vs) (w ++ r) (h .0, h .3)))
+      (form-text (bytes "message") [] _)
 
   pub waiting-shown : (n k : ℕ) (q : List Message) (w : List ℕ) → length q ≤ k → Each MessageFits q → At n q → waits n w ≡ false
       → waitingIn t k n (flat encodeMessage q ++ w) ≡ showing (behind (map (printMessage ws) q) []) w
@@ -112,7 +111,7 @@ module _ (t : List ℕ) (ws : List Bytes) (sp : Spells t ws) where
 
   -- ---- fields
   field-shown : (f : ℕ) (v : Value) (r : List ℕ) → NameFits f → ValueFits v
-      → formIn t (shown t 1) (2147483648 + f) (encodeValue v ∷ r) ≡ showing (form (bytes "field" ∷ printWord ws f ∷ printValue v ∷ [])) r
+      → formIn t (shown t 1) (2147483648 + f) (encodeValue v ∷ r) ≡ showing (form (fieldWord ∷ printWord ws f ∷ printValue v ∷ [])) r
   unfolding placed
   field-shown f v r g h =
       let z : 2147483648 + f ≡ fieldHeader f = omega arith in

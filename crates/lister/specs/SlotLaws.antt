@@ -35,10 +35,11 @@ unfolding aimIn
 aim-none v e = rw (ne-eqb (v / payload) 3 e)
 
 module _ (t : List ℕ) (at : ℕ) (old : List ℕ) (o : ℕ) where
-  pub message-whole : (new : List ℕ) (i p : ℕ) → Showed t (formIn t (shown t 1) (301989888 + getD t at 0 % payload) (drop (at + 1) t)) old o new i p
-      → Wrote old o (messageIn t (drop at t)) new p
-  unfolding messageIn formIn
-  message-whole new i p a = rw (here t at, drop-drop 1 at t) (a .text)
+  pub message-whole : (m₁ m₂ new : List ℕ) (p i q r : ℕ) → Wrote old o (bytes "(message") m₁ p
+      → Showed t (operandsIn t (shown t 1) (getD t at 0 % 512) (1 + getD t at 0 / 512 % 8) (drop (at + 1) t)) m₁ p m₂ i q → Wrote m₂ q (41 ∷ []) new r
+      → Wrote old o (messageIn t (drop at t)) new r
+  unfolding messageIn
+  message-whole m₁ m₂ new p i q r a b c = rw (here t at, drop-drop 1 at t) (wrote-two old o _ _ m₁ new p r a (wrote-two m₁ p _ _ m₂ new q r (b .text) c))
 
   module _ (n k : ℕ) where
     stop : (k : ℕ) → waits n (drop at t) ≡ Bool.false → waitingIn t k n (drop at t) ≡ record { text = []; rest = drop at t }
@@ -194,4 +195,4 @@ module _ (t : List ℕ) (a s at body wait : ℕ) (old : List ℕ) (o : ℕ) wher
 
 pub ruleset kinds = (needs, kind-at, kind-future)
 
-pub ruleset laws = (needs, aim-out, aim-ref, aim-none, message-whole, waiting-full, waiting-end, waiting-none, waiting-other, waiting-more, inbox-none, inbox-more, fields-none, fields-more, state-open, state-value, state-resolver, state-none, entry-whole, end-whole, slots-none)
+pub ruleset laws = (needs, aim-out, aim-ref, aim-none, waiting-full, waiting-end, waiting-none, waiting-other, waiting-more, inbox-none, inbox-more, fields-none, fields-more, state-open, state-value, state-resolver, state-none, entry-whole, end-whole, slots-none)

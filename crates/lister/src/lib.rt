@@ -17,9 +17,7 @@ const PAYLOAD: u32 = 16777216;
 // The number that is no name.
 const NO_NAME: usize = 127;
 
-// The word of kind 18, as which a message is shown, and a field's header, both with no payload.
-const MESSAGE: u32 = 301989888;
-
+// A field's header with no name.
 const FIELD: u32 = 2147483648;
 
 // No term has more words in one another.
@@ -50,9 +48,18 @@ fn show_message(t: &[u32], at: usize, out: &mut [u8], o: usize) -> usize
     requires { ⌜ (o ≤ 1099511627776) × (length (now t) ≡ 16384) × (at < 16384) ⌝ }
     ensures { λ r. ⌜ Wrote (now (out .entry)) o (messageIn (now (t .entry)) (drop at (now (t .entry)))) (now (out .exit)) r ⌝ }
 {
-    let h = t[at] % PAYLOAD;
-    let r = showing::show_form(t, MESSAGE + h, at + 1, out, o, 1);
-    r.o
+    let h = t[at];
+    let p = showing::put_bytes(b"(message", out, o);
+    let r = showing::show_operands(
+        t,
+        at + 1,
+        (h % 512) as usize,
+        (1 + h / 512 % 8) as usize,
+        out,
+        p,
+        1,
+    );
+    showing::put(b')', out, r.o)
 }
 
 // The messages at `at` to the entity `n`, at most `left`, each behind a space. Behind the last one stand zeros or a slot, whose
