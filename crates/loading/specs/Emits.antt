@@ -1,25 +1,30 @@
 -- The words of a script's expression expand to the words of its expansion. By induction on the expressions of the grammar under a
 -- dictionary of at most 64 words. Assumes nothing.
-use mathlib.Core.Path.{_≡_, refl, sym, ap, ap₂, _∙_, subst as transp}
+use mathlib.Core.Path.{_≡_, refl, sym, ap, _∙_, subst as transp}
 use mathlib.Core.Bool.{Bool, true, false, false≢true}
 use mathlib.Core.List.{List, [], _∷_, _++_, append-assoc, append-nil}
-use Prim.Native.Nat.{ℕ, zero, suc, _+_, _-_, _*_, _/_, _%_, _≤_, _<_}
+use Prim.Native.Nat.{ℕ, suc, _+_, _-_, _*_, _/_, _%_, _≤_, _<_}
 use native.Mathlib.Omega.{arith}
 use borrow.Author.Tests.{ne-eqb, eqb-true, eqb-false}
 use lib.Dec.{eqb}
 use Rattle.atlite.specs.Base.{if_then_else_}
-use Rattle.atlite.specs.Term.{this, ·t, ·f, ·r, ·l, ·s, ·x, apply, Kind, Name, plain, Op, plus, percent, get, set, call, send, written, Term, Terms, cons, one, two as both, seq, append, var, op, countTerms, shape}
+use Rattle.atlite.specs.Term.{this, ·t, ·f, ·r, ·l, ·s, ·x, apply, Kind, Name, plain, Op, call, send, written, Term, Terms, cons, one, two as both, seq, append, var, op, countTerms, shape}
 use Rattle.atlite.specs.Script.{SrcOp, kept, ask, resolve, Src, num, null, var, op, letIn, future, fn, when, literal, Srcs, nil, cons, SrcFields, noField, field, SrcMethods, noMethod, method, countSrcs}
 use Rattle.atlite.specs.Expansion.{asking, ofTwo}
 use Rattle.atlite.specs.Valid.{operable}
-use Rattle.atlite.specs.Table.{Named, countFields, countMethods, Grammatical, GrammaticalAll, GrammaticalFields, GrammaticalMethods, writable}
+use Rattle.atlite.specs.Table.{countFields, countMethods, Grammatical, GrammaticalAll, GrammaticalFields, GrammaticalMethods, writable}
 use Rattle.layout.specs.Pack.{node}
-use Rattle.reading.specs.Items.{call-few, send-few}
+use Rattle.reading.specs.Items.{send-few}
 use Rattle.layout.specs.Fitting.{name-fits, shape-fits}
 use Rattle.layout.specs.TableReads.{variable-named}
-use Rattle.layout.specs.Terms.{opKind, opPayload, countMethods as countBodies, variable, tagged, asked, kindNumber, fieldHeader, methodHeader, encodeTerm, encodeTerms, encodeInits, encodeMethods, encodeValue, countInits}
+use Rattle.layout.specs.Terms.{opKind, opNode, countMethods as countBodies, variable, tagged, asked, kindNumber, fieldHeader, methodHeader, encodeTerm, encodeTerms, encodeInits, encodeMethods, encodeValue, countInits}
 use Rattle.layout.specs.Tables.{encodeSrc, encodeSrcs, encodeFields, encodeSrcMethods}
-use Rattle.loading.specs.Operands.{payload, arity, arity-get, arity-pair, arity-future, arity-message, arity-literal}
+use Rattle.layout.specs.TermReads.{label-small}
+use Rattle.layout.specs.Kinds.{op-kind}
+use Rattle.layout.specs.Parse.{unary, binary, many, parts}
+use Rattle.layout.specs.ParseHeads.{head-op, head-let, head-future, head-literal}
+use Rattle.layout.specs.Arity.{head-wants}
+use Rattle.showing.specs.Shown.{payload}
 use Rattle.printer.specs.Nesting.{nesting, nestingAll, nestingFields, nestingMethods}
 use Rattle.loading.specs.Expanding.{resolvingFor, expandOpWith, Self, outside, held, itself, selfTerm, closure, expandWith, expandAllWith, expandFieldsWith, expandMethodsWith}
 use Rattle.loading.specs.Emitted.{nullWord, binding, objectWord, sendRegister, leafIn, closureWords, askWords, resolverWords, waiterWords}
@@ -110,23 +115,15 @@ module _ (s : Self) where
   literal-words k fs ms = rw (fields-count fs, methods-count ms)
 
   -- an operator that stands as it is
-  kept-words : (o : Op ℕ) (es : Srcs) → node (opKind o) (opPayload (written o) (countSrcs es)) ∷ encodeTerms (expandAllWith es s) ≡ encodeTerm (op (written o) (expandAllWith es s))
+  kept-words : (o : Op ℕ) (es : Srcs) → opNode (written o) (countSrcs es) ∷ encodeTerms (expandAllWith es s) ≡ encodeTerm (op (written o) (expandAllWith es s))
   unfolding encodeTerm
-  kept-words plus es = refl
-  kept-words percent es = refl
-  kept-words (get f) es = refl
-  kept-words (set f) es = refl
-  kept-words (call m) es = rw (all-count es s)
-  kept-words (send m) es = rw (all-count es s)
+  kept-words o es = rw (all-count es s)
 
 kind-range : (k : Kind) → (15 ≤ kindNumber k) × (kindNumber k < 18)
 unfolding kindNumber
 kind-range Kind.object = (omega arith, omega arith)
 kind-range Kind.isolate = (omega arith, omega arith)
 kind-range Kind.actor = (omega arith, omega arith)
-
-literal-arity : (h a b : ℕ) → 15 ≤ h / payload → h / payload < 18 → h % 8 ≡ a → h / 8 % 8 ≡ b → arity h ≡ a + b
-literal-arity h a b l u e f = sym (arity-literal h l u .is) ∙ ap₂ (λ x y. x + y) e f
 
 method-high : (m : ℕ) (xs : List ℕ) → 192 ≤ methodHeader m xs / payload
 unfolding methodHeader
@@ -137,28 +134,14 @@ module _ (w : ℕ) (l : w ≤ 64) where
   abbrev Expands : ℕ → Self → Src → Type 0
   Expands n s e = One n (selfWord s) (encodeSrc e) (encodeTerm (expandWith e s))
 
-  -- a call or a send of n arguments, and any operator that is kept: the word stands as it is
-  called : (z k m n : ℕ) → 13 ≤ k → k < 15 → Named w m → n ≤ 3 → Brings z (node k (asked (plain m) n)) (node k (asked (plain m) n) ∷ []) z (suc n) []
-  unfolding tagged
-  called z k m n p q i u =
-      let f = name-fits w l m i in
-      let h = node k (asked (plain m) n) in
-      let e : h / 512 % 4 ≡ n = omega arith in
-      brings-copy z h (suc n) (omega arith) (omega arith) (sym (arity-message h (omega arith) (λ d. omega arith) (omega arith) .is) ∙ omega (arith, e))
-
-  kept-brings : (z : ℕ) (o : Op ℕ) (n : ℕ) → operable w (written o) n ≡ true
-      → Brings z (node (opKind o) (opPayload (written o) n)) (node (opKind o) (opPayload (written o) n) ∷ []) z n []
-  unfolding arity
-  kept-brings z plus n g = brings-copy z (node 7 0) n (omega arith) (omega arith) (sym (shape-fits w l (shape plus) n g))
-  kept-brings z percent n g = brings-copy z (node 8 0) n (omega arith) (omega arith) (sym (shape-fits w l (shape percent) n g))
-  kept-brings z (get x) n g = let (f, e) = shape-fits w l (shape (get x)) n g in brings-copy z (node 9 x) n (omega arith) (omega arith) (sym (arity-get (node 9 x) (omega arith) .is) ∙ sym e)
-  kept-brings z (set x) n g =
-      let (f, e) = shape-fits w l (shape (set x)) n g in
-      brings-copy z (node 10 x) n (omega arith) (omega arith) (sym (arity-pair (node 10 x) (omega arith) (λ z. omega arith) (omega arith) .is) ∙ sym e)
-  kept-brings z (call m) zero g = absurd (false≢true g)
-  kept-brings z (call m) (suc n) g = let (i, d, k) = call-few w m (suc n) g in called z 13 m n (omega arith) (omega arith) i (omega arith)
-  kept-brings z (send m) zero g = absurd (false≢true g)
-  kept-brings z (send m) (suc n) g = let (i, d, k) = send-few w m (suc n) g in called z 14 m n (omega arith) (omega arith) i (omega arith)
+  kept-brings : (z : ℕ) (o : Op ℕ) (n : ℕ) → operable w (written o) n ≡ true → Brings z (opNode (written o) n) (opNode (written o) n ∷ []) z n []
+  kept-brings z o n g =
+      let b = written o in
+      let f = shape-fits w l (shape b) n g in
+      let s = label-small (shape b) n f in
+      let (low, high, _, _, p, q, r) = op-kind b in
+      let e : opNode b n / payload ≡ opKind b = omega arith in
+      brings-copy z (opNode b n) n (omega arith) (omega arith) (λ d. p (omega arith)) (λ d. q (omega arith)) (λ d. r (omega arith)) (head-wants _ (many b n) (head-op b n f) .0)
 
   -- all of a list
   unfoldable Each : ℕ → Self → Srcs → Type 0
@@ -211,13 +194,13 @@ module _ (w : ℕ) (l : w ≤ 64) where
     emit-src (letIn x a b) n s g d =
         let f = name-fits w l x (g .0) in
         one-front (selfWord s) (node 11 x) n 2 (selfWord s) (node 11 x ∷ []) _ _ (omega arith)
-        (brings-copy (selfWord s) (node 11 x) 2 (omega arith) (omega arith) (sym (arity-pair (node 11 x) (omega arith) (λ z. omega arith) (omega arith) .is)))
+        (brings-copy (selfWord s) (node 11 x) 2 (omega arith) (omega arith) (λ z. omega arith) (λ z. omega arith) (λ z. omega arith) (head-wants _ (binary (λ a b. Term.letIn x a b)) (head-let x f) .0))
         (many-two (n - 1) (selfWord s) _ _ _ _ (emit-src a (n - 1) s (g .1) (omega arith)) (emit-src b (n - 1) s (g .2) (omega arith)))
     emit-src (future x y e) n s g d =
         let f = name-fits w l x (g .0) in
         let f′ = name-fits w l y (g .1) in
         let h = node 12 (x + 128 * y) in
-        one-front (selfWord s) h n 1 (selfWord s) (h ∷ []) _ _ (omega arith) (brings-copy (selfWord s) h 1 (omega arith) (omega arith) (sym (arity-future h (omega arith) .is)))
+        one-front (selfWord s) h n 1 (selfWord s) (h ∷ []) _ _ (omega arith) (brings-copy (selfWord s) h 1 (omega arith) (omega arith) (λ z. omega arith) (λ z. omega arith) (λ z. omega arith) (head-wants _ (unary (λ e. Term.future x y e)) (head-future x f y f′) .0))
         (many-one (n - 1) (selfWord s) _ _ (emit-src e (n - 1) s (g .2) (omega arith)))
     emit-src (fn x e) n s g d =
         let f = name-fits w l x (g .0) in
@@ -237,7 +220,7 @@ module _ (w : ℕ) (l : w ≤ 64) where
         let q = g .2 in
         one-same n (selfWord s) _ _ _ (literal-words s k fs ms)
         (one-front (selfWord s) h n (a + b) (selfWord itself) (h ∷ []) _ _ (omega arith)
-        (brings-literal (selfWord s) h (a + b) (omega arith) (omega arith) (literal-arity h a b (omega arith) (omega arith) (omega arith) (omega arith)))
+        (brings-literal (selfWord s) h (a + b) (omega arith) (omega arith) (head-wants _ (parts k a b) (head-literal k a b (omega arith) (omega arith)) .0))
         (many-join (n - 1) (selfWord itself) _ _ _ _ a b (emit-fields fs (n - 1) (g .1) (omega arith)) (emit-methods ms (n - 1) (g .3) (omega arith))))
 
     emit-each : (es : Srcs) (n : ℕ) (s : Self) → GrammaticalAll w es → nestingAll es < n → Each n s es

@@ -1,9 +1,9 @@
 -- expansion with what stands for `this`
 pub mod Expanding
--- words put where 4,096 have room, and the operands of a word
+-- words put where 4,096 have room, and tests of a number in a range
 pub mod Writing
 pub mod PutLaws
-pub mod Operands
+pub mod Ranges
 -- the words of an expansion, and the code that puts them
 pub mod Emitted
 pub mod Codes

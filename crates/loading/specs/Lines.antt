@@ -14,11 +14,11 @@ use Rattle.atlite.specs.Table.{countFields, countMethods, Grammatical, Grammati
 use Rattle.atlite.specs.Facts.{refused-done}
 use Rattle.layout.specs.Pack.{node, flat}
 use Rattle.layout.specs.Fitting.{name-fits}
-use Rattle.layout.specs.TermLaws.{kind-small}
+use Rattle.layout.specs.Kinds.{kind-small}
 use Rattle.layout.specs.TableReads.{variable-named, src-kind-small, src-payload-small}
 use Rattle.layout.specs.Terms.{kindNumber, encodeTerm}
 use Rattle.layout.specs.Tables.{srcKind, srcPayload, encodeSrc, definitionHeader, encodeLine}
-use Rattle.loading.specs.Operands.{payload}
+use Rattle.showing.specs.Shown.{payload}
 use Rattle.printer.specs.Nesting.{nesting, nestingLine, nestingLines}
 use Rattle.loading.specs.Expanding.{outside, expandOpWith, expandWith}
 use Rattle.loading.specs.Emitted.{nullWord, binding, emitted, leadIn, linesIn}

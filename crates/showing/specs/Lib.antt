@@ -3,7 +3,6 @@ pub mod Writing
 pub mod Shown
 pub mod Codes
 -- the laws of its functions
-pub mod Ranges
 pub mod PutLaws
 pub mod HeadLaws
 pub mod ShowLaws
