@@ -16,6 +16,7 @@ pub mod PackLaws
 pub mod ReadLaws
 pub mod TermLaws
 pub mod TermReads
+pub mod Values
 pub mod Fitting
 pub mod Slots
 pub mod Parts
