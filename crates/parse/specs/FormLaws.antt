@@ -26,7 +26,7 @@ use Rattle.parse.specs.declared.names.Name.the-variants.{Word, NoWord}
 use Rattle.parse.specs.declared.scratch.Step.{Step}
 use Rattle.parse.specs.declared.scratch.Step.the-variants.{Bad}
 use Rattle.parse.specs.Atoms.{SpacedName}
-use Rattle.parse.specs.Operators.{operatorOf, operator-kind, Told, isBare, isField, isNone, told, ownKinds, Unformed, no-operator}
+use Rattle.parse.specs.Operators.{operatorOf, operator-kind, is-bare, is-naming, ownKinds, Unformed, no-operator}
 use Rattle.parse.specs.Steps.{Took, Reads, exprs, brackets, formBy, forms, readOne, ones, oneWords, Parts, readParts, parts, partWords, headWords, readMid, mids, midWords, Follow, readArgs, readSend, sends, sendWords, readLiteral, literals, literalWords}
 use Rattle.parse.specs.NameLaws.{starts-room, spaced-read, spaced-refused}
 use Rattle.parse.specs.StepLaws.{shift, bind-assoc, under, took-under}
@@ -157,30 +157,20 @@ module _ (t : Bytes) (at o : ℕ) (old new : List ℕ) (a : Step) where
       at (omega arith) (parts n t) k (λ m. forms-is _ k t m _ b ∙ bare-is _ _ _ q n c) (whole t at o k n old new a s)
 
   -- an operand, a name, and the other operands
-  form-named : (c : ℕ → SrcOp) (k n : ℕ) → operatorOf operators k ≡ some (naming c) → ((f : ℕ) → (srcShape (c f) ≡ Shape.onField f n) × (srcKind (c f) ≡ k))
+  form-named : (c : ℕ → SrcOp) (k n : ℕ) → operatorOf operators k ≡ some (naming c) → ((f : ℕ) → srcShape (c f) ≡ Shape.onField f n) → ((f : ℕ) → srcKind (c f) ≡ k)
       → Reads (midWords k (n - 1)) (mids (n - 1) t) t at o old new a → Reads wideSrc (forms k t) t at o old new a
   unfolding wideSrc midWords mids readMid
-  form-named c k n b h s =
+  form-named c k n b h d s =
       form-as (λ v. op (c (v .1)) (cons (v .0) (partSrcs (n - 1) (v .2)))) (midWords k (n - 1))
-      (λ v. rw (parts-words (n - 1) (v .2), h (v .1) .1, payload-field (c (v .1)) (v .1) n _ (h (v .1) .0)))
-      at (omega arith) (mids (n - 1) t) k (λ m. forms-is _ k t m _ b ∙ named-is _ _ _ c n (λ f. h f .0)) s
+      (λ v. rw (parts-words (n - 1) (v .2), d (v .1), payload-field (c (v .1)) (v .1) n _ (h (v .1))))
+      at (omega arith) (mids (n - 1) t) k (λ m. forms-is _ k t m _ b ∙ named-is _ _ _ c n h) s
 
   module _ (k f n : ℕ) (p : f ≡ rowIn k / 16) (m : n ≡ rowIn k % 4) where
     pub form-bare : f ≡ 1 → Follow k n t at (o + 1) old o new a → Reads wideSrc (forms k t) t at o old new a
-    form-bare e s = go (told k)
-      where
-        go : Told k → Reads wideSrc (forms k t) t at o old new a
-        go (isBare q j b c d x y) = form-parts q k j b c d (rw (m ∙ y) at s)
-        go (isField c j b h x y z) = absurd (omega arith)
-        go (isNone x) = absurd (omega arith)
+    form-bare e s = let h = is-bare k f n p m e in form-parts (h .operator) k n (h .found) (h .shape) (h .kind) s
 
     pub form-field : f ≡ 2 → Reads (midWords k (n - 1)) (mids (n - 1) t) t at o old new a → Reads wideSrc (forms k t) t at o old new a
-    form-field e s = go (told k)
-      where
-        go : Told k → Reads wideSrc (forms k t) t at o old new a
-        go (isBare q j b c d x y) = absurd (omega arith)
-        go (isField c j b h x y z) = form-named c k j b h (rw (m ∙ y) at s)
-        go (isNone x) = absurd (omega arith)
+    form-field e s = let h = is-naming k f n p m e in form-named (h .operator) k n (h .found) (h .shape) (h .kind) s
 
   pub form-resolve : (k : ℕ) → k ≡ 66 → Follow k 2 t at (o + 1) old o new a → Reads wideSrc (forms k t) t at o old new a
   unfolding Words operatorOf

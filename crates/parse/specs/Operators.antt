@@ -5,20 +5,21 @@ use mathlib.Core.Path.{_≡_, refl, sym, ap, _∙_}
 use mathlib.Core.Bool.{Bool, true, false, false≢true, _||_, cond}
 use mathlib.Core.Option.{Option, none, some}
 use mathlib.Core.List.{List, [], _∷_, _++_, map}
-use Prim.Native.Nat.{ℕ, _+_, _/_, _%_, _≤_}
+use Prim.Native.Nat.{ℕ, _/_, _%_, _≤_, _<_}
 use native.Mathlib.Omega.{arith}
-use borrow.Author.Tests.{leb-true, eqb-true, eq-eqb, ne-eqb}
-use lib.Dec.{eqb, leb}
+use borrow.Author.Tests.{eqb-true, eq-eqb, ne-eqb}
+use lib.Dec.{eqb}
 use Rattle.atlite.specs.Base.{sameBytes, all, if_then_else_}
 use Rattle.atlite.specs.Facts.{and₂}
-use Rattle.atlite.specs.Term.{this, demanded, Shape, exactly}
+use Rattle.atlite.specs.Term.{Op, written, demanded, Shape, exactly}
 use Rattle.atlite.specs.Lexicon.{Bytes}
 use Rattle.atlite.specs.Keywords.{Operator, naming, operators, spelling}
 use Rattle.atlite.specs.Script.{SrcOp, kept, srcShape}
 use Rattle.atlite.specs.Reader.{spelled}
+use Rattle.layout.specs.Terms.{opKind}
 use Rattle.layout.specs.Tables.{srcKind}
-use Rattle.layout.specs.Kinds.{Kinds, Words, Form, forms, formKind, formAt, formIn, operatorKind, keywords, kindOf, kindIn, rowOf, rowIn, by-kind}
-use Rattle.layout.specs.KindLaws.{demanded-few}
+use Rattle.layout.specs.Kinds.{Kinds, Words, Bare, Form, forms, formKind, formAt, formIn, operatorKind, keywords, kindOf, kindIn, rowIn, by-kind}
+use Rattle.layout.specs.KindLaws.{bare-found, bare-row, field-found, field-row}
 use Rattle.scan.specs.Keywords.{absent, distinct, keywords-distinct, kind-absent}
 
 -- the operator of kind k
@@ -64,66 +65,64 @@ begun Form.calls d = d
 begun Form.sends d = d
 begun (Form.literal c) d = d
 
--- a form and a kind's operator agree, and the operand before a field's name is counted
-abbrev agreed : Form → Option Operator → Option Operator × Bool
-agreed r d = (begun r d, leb (rowOf r / 16) (1 + rowOf r % 4))
-
+-- the operators have what the forms say
 abbrev Agree : List Form → Type 0
-Agree rs = map (λ r. agreed r (operatorOf operators (formKind r))) rs ≡ map (λ r. (operatorOf operators (formKind r), true)) rs
+Agree rs = map (λ r. begun r (operatorOf operators (formKind r))) rs ≡ map (λ r. operatorOf operators (formKind r)) rs
 
 forms-agree : Agree forms
-unfolding begun Kinds Words operatorOf demanded
+unfolding begun Kinds Words operatorOf
 forms-agree = refl
 
-agree : (k : ℕ) (rs : List Form) → Agree rs → agreed (formAt rs k) (operatorOf operators k) ≡ (operatorOf operators k, true)
-unfolding begun formAt rowOf
+agree : (k : ℕ) (rs : List Form) → Agree rs → begun (formAt rs k) (operatorOf operators k) ≡ operatorOf operators k
+unfolding begun formAt
 agree k [] h = refl
 agree k (r ∷ rs) h = go (eqb (formKind r) k) refl (cc) (agree k rs (cc))
   where
-    go : (b : Bool) → eqb (formKind r) k ≡ b → agreed r (operatorOf operators (formKind r)) ≡ (operatorOf operators (formKind r), true)
-        → agreed (formAt rs k) (operatorOf operators k) ≡ (operatorOf operators k, true) → agreed (cond b r (formAt rs k)) (operatorOf operators k) ≡ (operatorOf operators k, true)
+    go : (b : Bool) → eqb (formKind r) k ≡ b → begun r (operatorOf operators (formKind r)) ≡ operatorOf operators (formKind r)
+        → begun (formAt rs k) (operatorOf operators k) ≡ operatorOf operators k → begun (cond b r (formAt rs k)) (operatorOf operators k) ≡ operatorOf operators k
     go true e h i = rw (← eqb-true (formKind r) k e) h
     go false e h i = i
 
--- what the row of a kind tells of its operator
-pub data Told (k : ℕ) : Type 0 where
-  isBare : (q : SrcOp) (n : ℕ) → operatorOf operators k ≡ some (Operator.bare q) → srcShape q ≡ exactly n → srcKind q ≡ k → rowIn k / 16 ≡ 1 → rowIn k % 4 ≡ n → Told k
-  isField : (c : ℕ → SrcOp) (n : ℕ) → operatorOf operators k ≡ some (naming c) → ((f : ℕ) → (srcShape (c f) ≡ Shape.onField f n) × (srcKind (c f) ≡ k))
-      → rowIn k / 16 ≡ 2 → rowIn k % 4 ≡ n → 1 ≤ n → Told k
-  isNone : rowIn k / 16 ≡ 0 → Told k
+agreed : (k : ℕ) (r : Form) → formIn k ≡ r → operatorOf operators k ≡ begun r (operatorOf operators k)
+unfolding formIn
+agreed k r e = sym (rw (← e) (agree k forms forms-agree))
 
-told-row : (r : Form) → agreed r (operatorOf operators (formKind r)) ≡ (operatorOf operators (formKind r), true) → rowIn (formKind r) ≡ rowOf r → Told (formKind r)
-unfolding begun formKind rowOf
-told-row Form.nothing b e = isNone (omega arith)
-told-row Form.nullValue b e = isNone (omega arith)
-told-row Form.number b e = isNone (omega arith)
-told-row Form.reference b e = isNone (omega arith)
-told-row Form.variable b e = isNone (omega arith)
-told-row (Form.bare o n h) b e = let d = demanded-few o n in let l = h .2 in isBare (kept o) n (sym (ap (λ x. x .0) b)) (h .0) refl (omega arith) (omega arith)
-told-row (Form.onField c k n h) b e =
-    let d = demanded-few (c this) n in
-    let l = h .1 in
-    let z : rowOf (Form.onField c k n h) / 16 ≤ 1 + rowOf (Form.onField c k n h) % 4 = leb-true _ _ (ap (λ x. x .1) b) in
-    isField (λ f. kept (c f)) n (sym (ap (λ x. x .0) b)) (λ f. (h .0 f .0, h .0 f .2)) (omega arith) (omega arith) (omega arith)
-told-row Form.letIn b e = isNone (omega arith)
-told-row Form.future b e = isNone (omega arith)
-told-row Form.calls b e = isNone (omega arith)
-told-row Form.sends b e = isNone (omega arith)
-told-row (Form.literal c) b e = isNone (omega arith)
+bare-kind : (k : ℕ) (o : Op ℕ) (n : ℕ) (e : Bare o n) → formIn k ≡ Form.bare o n e → opKind (written o) ≡ k
+unfolding formKind
+bare-kind k o n e = by-kind (λ k r. r ≡ Form.bare o n e → opKind (written o) ≡ k) (λ k q. absurd (let z : _≡_ {A = ℕ} 0 1 = cc in omega arith)) (λ r q. sym (ap formKind q)) k
 
-pub told : (k : ℕ) → Told k
-unfolding rowIn rowOf formIn
-told k =
-    by-kind (λ k r. agreed r (operatorOf operators k) ≡ (operatorOf operators k, true) → rowIn k ≡ rowOf r → Told k) (λ k b e. isNone (omega arith)) told-row k
-    (agree k forms forms-agree) refl
+-- of kind k is the operator q, with n operands, or the operators c, one for each name
+pub record IsBare (k n : ℕ) : Type 0 where
+  pub operator : SrcOp
+  pub found : operatorOf operators k ≡ some (Operator.bare operator)
+  pub shape : srcShape operator ≡ exactly n
+  pub kind : srcKind operator ≡ k
 
-pub field-counts : (k f n : ℕ) → f ≡ rowIn k / 16 → n ≡ rowIn k % 4 → f ≡ 2 → 1 ≤ n
-field-counts k f n p m e = go (told k)
-  where
-    go : Told k → 1 ≤ n
-    go (isBare q j b c d x y) = absurd (omega arith)
-    go (isField c j b h x y z) = omega arith
-    go (isNone x) = absurd (omega arith)
+pub record IsNaming (k n : ℕ) : Type 0 where
+  pub operator : ℕ → SrcOp
+  pub found : operatorOf operators k ≡ some (naming operator)
+  pub shape : (f : ℕ) → srcShape (operator f) ≡ Shape.onField f n
+  pub kind : (f : ℕ) → srcKind (operator f) ≡ k
+  pub some-left : 0 < n
+
+module _ (k f n : ℕ) (p : f ≡ rowIn k / 16) (m : n ≡ rowIn k % 4) where
+  pub is-bare : f ≡ 1 → IsBare k n
+  unfolding begun
+  is-bare e =
+      let (o, j, h, q) = bare-found k (sym p ∙ e) in
+      let z : j ≡ n = sym (m ∙ bare-row k o j h q .0) in
+      record { operator = kept o; found = agreed k _ q; shape = h .0 ∙ ap exactly z; kind = bare-kind k o j h q }
+
+  pub is-naming : f ≡ 2 → IsNaming k n
+  unfolding begun
+  is-naming e =
+      let (c, j, h, q) = field-found k (sym p ∙ e) in
+      let z : j ≡ n = sym (m ∙ field-row c k j h q .0) in
+      let l = h .1 in
+      record { operator = λ f. kept (c f); found = agreed k _ q; shape = λ f. h .0 f .0 ∙ ap (Shape.onField f) z; kind = λ f. h .0 f .2; some-left = omega arith }
+
+  pub field-counts : f ≡ 2 → 1 ≤ n
+  field-counts e = let h = is-naming e in omega (arith, h .some-left)
 
 -- ---- no operator
 -- the kinds of forms of their own

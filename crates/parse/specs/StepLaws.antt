@@ -21,7 +21,7 @@ use Rattle.parse.specs.declared.scratch.Step.{Step}
 use Rattle.parse.specs.declared.scratch.Step.the-variants.{Done, Bad}
 use Rattle.parse.specs.Atoms.{Named, NameOf, SpacedName}
 use Rattle.parse.specs.NameLaws.{eat-starts, eat-not, starts-room, spaced-refused}
-use Rattle.parse.specs.Steps.{Place, Read, Took, Reads, spaceds, exprs, readMid, mids, midWords, readSend, sends, sendWords}
+use Rattle.parse.specs.Steps.{Place, Read, Took, Reads, Closed, spaceds, exprs, readMid, mids, midWords, readSend, sends, sendWords}
 
 -- ---- writes
 set-before : (xs l : List ℕ) (i k h : ℕ) → i < k → set (sets l k xs) i h ≡ sets (set l i h) k xs
