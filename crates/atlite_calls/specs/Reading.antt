@@ -115,7 +115,7 @@ join-fair (define x e ∷ []) = stopped refl
 join-fair (expression e ∷ l ∷ ls) = next (join-fair (l ∷ ls)) λ d. fine
 join-fair (define x e ∷ l ∷ ls) = next (join-fair (l ∷ ls)) λ d. fine
 
-pub read-caused : (t : Bytes) → Caused (read t)
+pub read-caused : (t : Bytes) → Caused (read operators t)
 unfolding read readScript
 read-caused t = tested 1 _ refl (next (lines-fair (length t + 1) (dictionary t) t) λ ls. next (join-fair ls) λ e. tested 3 _ refl (tested 4 _ refl (tested 5 _ refl fine)))
 

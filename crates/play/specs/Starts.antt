@@ -10,6 +10,7 @@ use Rattle.atlite.specs.Base.{Result, done, refused, _>>=_, orRefuse}
 use Rattle.atlite.specs.Facts.{refused-done}
 use Rattle.atlite.specs.Lexicon.{Bytes}
 use Rattle.atlite.specs.State.{State}
+use Rattle.atlite.specs.Keywords.{operators}
 use Rattle.atlite.specs.Table.{IsTable, Table, read}
 use Rattle.atlite.specs.Load.{load}
 use Rattle.atlite.specs.Program.{started, shown}
@@ -59,16 +60,16 @@ table-here w T h e = rw (e, table-of T h)
 module _ (t table : List ℕ) (a : Tabled) (e : readAnswer a ≡ readCall t table .result) (h : tableWords ≤ length table) where
   pub text-refused : (n : ℕ) → a ≡ T.Refused n → (w : List ℕ) → Starts t (L.Refused n) w
   unfolding readAnswer readCall answered Starts started
-  text-refused n c w = go (read t) refl
+  text-refused n c w = go (read operators t) refl
     where
-      told : answered table (read t >>= λ T. done (silent (encodeTable T))) .result ≡ refused n
+      told : answered table (read operators t >>= λ T. done (silent (encodeTable T))) .result ≡ refused n
       told = rw (room-enough tableWords table h) at (sym e ∙ ap readAnswer c)
 
-      go : (R : Result Table) → read t ≡ R → (read t >>= load) ≡ refused n
+      go : (R : Result Table) → read operators t ≡ R → (read operators t >>= load) ≡ refused n
       go (refused m) i = rw i (ap refused (refused-same m n (rw i at told)))
       go (done T) i = absurd (refused-done (sym (rw i at told)))
 
-  table-read : a ≡ T.Done → (words : List ℕ) → words ≡ readCall t table .buffer → (T : Table) × IsTable T × (read t ≡ done T) × (tableIn words ≡ done T) × (length words ≡ length table)
+  table-read : a ≡ T.Done → (words : List ℕ) → words ≡ readCall t table .buffer → (T : Table) × IsTable T × (read operators t ≡ done T) × (tableIn words ≡ done T) × (length words ≡ length table)
   unfolding readAnswer
   table-read c words d =
       let q = read-done t table (sym e ∙ ap readAnswer c) in
@@ -80,7 +81,7 @@ module _ (t : List ℕ) (r : Loaded) (new words old table : List ℕ) (a : Table
   unfolding Starts loadAnswer loadCall answered started
   text-started c h k = go r (load T) refl (f ∙ ap (λ X. X .result) loads) (g ∙ ap (λ X. X .buffer) loads)
     where
-      told : (T : Table) × IsTable T × (read t ≡ done T) × (tableIn words ≡ done T) × (length words ≡ length table)
+      told : (T : Table) × IsTable T × (read operators t ≡ done T) × (tableIn words ≡ done T) × (length words ≡ length table)
       told = table-read t table a e h c words d
 
       T : Table

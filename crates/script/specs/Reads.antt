@@ -34,11 +34,11 @@ pub no-room : (t old : List ℕ) → length old < 1280 → Reads t old (Refused 
 unfolding Reads readAnswer readCall answered
 no-room t old h = rw (room-short tableWords old h) (refl, refl)
 
-refusal : (t old : List ℕ) (n : ℕ) → 1280 ≤ length old → read t ≡ refused n → Reads t old (Refused n) old
+refusal : (t old : List ℕ) (n : ℕ) → 1280 ≤ length old → read operators t ≡ refused n → Reads t old (Refused n) old
 unfolding Reads readAnswer readCall answered
 refusal t old n h e = rw (room-enough tableWords old h, e) (refl, refl)
 
-taken : (t old new : List ℕ) (T : Table) → 1280 ≤ length old → read t ≡ done T → new ≡ encodeTable T ++ drop 1280 old → Reads t old Done new
+taken : (t old new : List ℕ) (T : Table) → 1280 ≤ length old → read operators t ≡ done T → new ≡ encodeTable T ++ drop 1280 old → Reads t old Done new
 unfolding Reads readAnswer readCall answered
 taken t old new T h e n = rw (room-enough tableWords old h, e, table-length T (read-table t T e)) (refl, n)
 
@@ -60,17 +60,17 @@ positive h = omega arith
 module _ (t old : List ℕ) (room : 1280 ≤ length old) where
   pub no-text : length t ≡ 0 → Reads t old (Refused 1) old
   unfolding read require
-  no-text e = let r : read t ≡ refused 1 = rw e in refusal t old 1 room r
+  no-text e = let r : read operators t ≡ refused 1 = rw e in refusal t old 1 room r
 
   pub long-text : 4096 < length t → Reads t old (Refused 1) old
   unfolding read require
   long-text h =
-      let r : read t ≡ refused 1 = rw (lt-ltb 0 (length t) (omega arith), lt-leb (length t) 4096 h) in
+      let r : read operators t ≡ refused 1 = rw (lt-ltb 0 (length t) (omega arith), lt-leb (length t) 4096 h) in
       refusal t old 1 room r
 
   module _ (some : length t ≡ 0 → ⊥) (short : length t ≤ 4096) where
     -- the text's length is no cause
-    sized : read t ≡ (readScript operators t >>= λ ls. (join ls >>= λ e. judged t ls e))
+    sized : read operators t ≡ (readScript operators t >>= λ ls. (join ls >>= λ e. judged t ls e))
     unfolding read require judged within
     sized = rw (lt-ltb 0 (length t) (positive some), le-leb (length t) 4096 short)
 
@@ -86,7 +86,7 @@ module _ (t old : List ℕ) (room : 1280 ≤ length old) where
         go (done ls) q = lines ls (join ls) q
 
     module _ (ls : List Line) (e : Src) (script : readScript operators t ≡ done ls) (joined : join ls ≡ done e) where
-      whole : read t ≡ judged t ls e
+      whole : read operators t ≡ judged t ls e
       whole = sized ∙ rw (script, joined)
 
       pub unbound : bound [] e ≡ false → Reads t old (Refused 3) old
