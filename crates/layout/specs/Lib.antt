@@ -1,4 +1,5 @@
 -- to be believed: how terms, states and tables stand in words, and what the calls mean
+pub mod Numbers
 pub mod Pack
 pub mod Terms
 pub mod Layout
