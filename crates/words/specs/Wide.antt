@@ -16,9 +16,20 @@ use Rattle.layout.specs.Tables.{srcKind}
 abbrev pub wide : ℕ → ℕ → ℕ
 wide k p = k + 256 * p
 
+-- names are below it
+abbrev pub wideLimit : ℕ
+wideLimit = 4096
+
 -- two names, or a name and a count
 abbrev pub pair : ℕ → ℕ → ℕ
-pair x y = x + 4096 * y
+pair x y = x + wideLimit * y
+
+-- where the third of three names stands, and a method's parameters behind its name and their number
+abbrev pub wideThird : ℕ
+wideThird = wideLimit * wideLimit
+
+abbrev pub wideParamsAt : ℕ
+wideParamsAt = wideLimit * 4
 
 -- up to three parameters, an empty place 0
 unfoldable pub wideParams : List ℕ → ℕ
