@@ -11,6 +11,11 @@ use crate::messages;
 use crate::slots;
 use crate::values;
 
+// How many words an expression may have, and how many stand behind the slots of the copies.
+const LONGEST: u32 = layout::EXPR_SIZE as u32;
+
+const BEHIND: usize = layout::BODIES_SIZE + layout::REST_SIZE;
+
 // How many words all methods of an actor have.
 const BODIES: usize = 1536;
 
@@ -31,7 +36,7 @@ fn counts(part: &[u32]) -> bool
     if 16 < part[4] {
         return false;
     }
-    part[5] <= 512
+    part[5] <= LONGEST
 }
 
 // The moves, the counts and ten zeros.
@@ -103,7 +108,7 @@ fn end(part: &[u32], d: usize) -> bool
         if 768 < terms::nodes(&part[1104..2640], 0, d) {
             return false;
         }
-        return values::zeros(part, 1104 + d, 2096 - d);
+        return values::zeros(part, 1104 + d, BEHIND - d);
     }
     false
 }
