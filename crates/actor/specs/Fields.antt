@@ -15,6 +15,7 @@ use Rattle.atlite.specs.Valid.{All, isName, namesWithin, FieldsHeld}
 use Rattle.atlite.specs.Facts.{and₂, and₃, and₄, both₂, both₃, both₄}
 use Rattle.invariant.specs.Arrivals.{fields-all}
 use Rattle.invariant.specs.TermTests.{Is, all-is, is-all}
+use Rattle.layout.specs.Numbers.{nameLimit}
 use Rattle.layout.specs.Pack.{zeros, pad, names}
 use Rattle.layout.specs.PackLaws.{pack-low, pack-high, length-pad, pad-front, Each, NameFits, names-back}
 use Rattle.layout.specs.Reading.{namesIn}
@@ -38,21 +39,21 @@ names-word : (W c x : ℕ) → namesHold W c x ≡ true
 unfolding namesHold namesIn names distinct all
 names-word W zero x h = (sym (eqb-true x 0 h), refl, refl, refl)
 names-word W (suc c) x h =
-    let y = x % 128 in
-    let ys = namesIn c (x / 128) in
-    let r = and₃ (isName W y) (not (member y ys)) (namesHold W c (x / 128)) h in
-    let i = names-word W c (x / 128) (r .2) in
+    let y = x % nameLimit in
+    let ys = namesIn c (x / nameLimit) in
+    let r = and₃ (isName W y) (not (member y ys)) (namesHold W c (x / nameLimit)) h in
+    let i = names-word W c (x / nameLimit) (r .2) in
     let z = i .0 in
-    (ap (λ k. x % 128 + 128 * k) z ∙ omega arith, both₂ (r .1) (i .1), both₂ (r .0) (i .2), ap suc (i .3))
+    (ap (λ k. x % nameLimit + nameLimit * k) z ∙ omega arith, both₂ (r .1) (i .1), both₂ (r .0) (i .2), ap suc (i .3))
 
 word-names : (W : ℕ) (xs : List ℕ) → Each NameFits xs → distinct xs ≡ true → all (isName W) xs ≡ true → namesHold W (length xs) (names xs) ≡ true
 unfolding namesHold names distinct all
 word-names W [] f d h = refl
 word-names W (x ∷ xs) f d h =
-    let l : x < 128 = omega (arith, f .0) in
+    let l : x < nameLimit = omega (arith, f .0) in
     let r = and₂ (not (member x xs)) (distinct xs) d in
     let q = and₂ (isName W x) (all (isName W) xs) h in
-    rw (pack-low 128 x (names xs) l, pack-high 128 x (names xs) l, names-back xs (f .1))
+    rw (pack-low nameLimit x (names xs) l, pack-high nameLimit x (names xs) l, names-back xs (f .1))
     (both₃ (q .0) (r .0) (word-names W xs (f .1) (r .1) (q .1)))
 
 -- ---- fields of names and values

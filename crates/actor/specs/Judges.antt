@@ -7,6 +7,7 @@ use Rattle.atlite.specs.Term.{Term}
 use Rattle.atlite.specs.State.{Actor}
 use Rattle.atlite.specs.Limits.{full, withinActor}
 use Rattle.atlite.specs.Valid.{WellFormed, IsActor}
+use Rattle.layout.specs.Numbers.{exprSize}
 use Rattle.layout.specs.Layout.{encodeActor}
 use Rattle.layout.specs.Parts.{ActorFits}
 use Rattle.layout.specs.ParseSound.{TermAt}
@@ -23,5 +24,5 @@ IsPart K a W w =
 
 -- e is where the expression ends that the region R begins with
 pub record Ends (K : List ℕ) (a W : ℕ) (R : List ℕ) (e : ℕ) : Type 0 where
-  pub sound : e ≤ 512 → (t : Term) × TermAt R 0 t e × WellFormed t W (λ v. allowed K a v ≡ true) []
+  pub sound : e ≤ exprSize → (t : Term) × TermAt R 0 t e × WellFormed t W (λ v. allowed K a v ≡ true) []
   pub complete : (t : Term) (i : ℕ) → TermAt R 0 t i → WellFormed t W (λ v. allowed K a v ≡ true) [] → e ≡ i

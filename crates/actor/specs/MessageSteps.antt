@@ -8,108 +8,109 @@ use borrow.Author.Needs.{needs}
 use borrow.Author.Tests.{eq-eqb, ne-eqb, lt-ltb, le-ltb, le-leb, lt-leb}
 use lib.ListN.{getD}
 use Rattle.atlite.specs.Base.{all}
+use Rattle.layout.specs.Numbers.{payload, numberLimit, ownerUnit, slotSize, madeAt}
 use Rattle.layout.specs.Parse.{valueAt, valuesAt, zerosAt}
 use Rattle.wellformed.specs.Kinds.{allowed}
 use Rattle.wellformed.specs.Words.{within, holds, sendIn}
-use Rattle.actor.specs.Tests.{arguments, sentAt, arrivedAt, inboxAt, waitsAt, waitingAt}
+use Rattle.actor.specs.Tests.{arguments, sentAt, arrivedAt, arrivalsAt, waitsAt, waitersAt}
 
 module _ (K : List ℕ) (a W : ℕ) (w : List ℕ) (at : ℕ) where
   -- ---- a message but for its receiver
-  pub sent-kind : (getD w at 0 / 16777216 ≡ 14 → ⊥) → false ≡ sentAt K a W w at
+  pub sent-kind : (getD w at 0 / payload ≡ 14 → ⊥) → false ≡ sentAt K a W w at
   unfolding sentAt
-  sent-kind h = rw (ne-eqb (getD w at 0 / 16777216) 14 h)
+  sent-kind h = rw (ne-eqb (getD w at 0 / payload) 14 h)
 
-  module _ (k : getD w at 0 / 16777216 ≡ 14) where
+  module _ (k : getD w at 0 / payload ≡ 14) where
     pub sent-many : 5 ≤ arguments (getD w at 0) → false ≡ sentAt K a W w at
     unfolding sentAt
-    sent-many h = rw (eq-eqb (getD w at 0 / 16777216) 14 k, le-ltb (arguments (getD w at 0)) 5 h)
+    sent-many h = rw (eq-eqb (getD w at 0 / payload) 14 k, le-ltb (arguments (getD w at 0)) 5 h)
 
-    module _ (l : arguments (getD w at 0) < 5) (v : Bool) (e : v ≡ sendIn W (getD w at 0 % 16777216)) where
+    module _ (l : arguments (getD w at 0) < 5) (v : Bool) (e : v ≡ sendIn W (getD w at 0 % payload)) where
       pub sent-name : v ≡ false → false ≡ sentAt K a W w at
       unfolding sentAt
-      sent-name t = rw (eq-eqb (getD w at 0 / 16777216) 14 k, lt-ltb (arguments (getD w at 0)) 5 l, ← e, t)
+      sent-name t = rw (eq-eqb (getD w at 0 / payload) 14 k, lt-ltb (arguments (getD w at 0)) 5 l, ← e, t)
 
       module _ (t : v ≡ true) (u : Bool) (d : u ≡ within (all (allowed K a)) (valuesAt w (arguments (getD w at 0)) (at + 2))) where
         pub sent-values : u ≡ false → false ≡ sentAt K a W w at
         unfolding sentAt
-        sent-values s = rw (eq-eqb (getD w at 0 / 16777216) 14 k, lt-ltb (arguments (getD w at 0)) 5 l, ← e, t, ← d, s)
+        sent-values s = rw (eq-eqb (getD w at 0 / payload) 14 k, lt-ltb (arguments (getD w at 0)) 5 l, ← e, t, ← d, s)
 
         pub sent-all : u ≡ true → (r : Bool) → r ≡ zerosAt w (4 - arguments (getD w at 0)) (at + 2 + arguments (getD w at 0)) → r ≡ sentAt K a W w at
         unfolding sentAt
-        sent-all s r h = rw (eq-eqb (getD w at 0 / 16777216) 14 k, lt-ltb (arguments (getD w at 0)) 5 l, ← e, t, ← d, s) h
+        sent-all s r h = rw (eq-eqb (getD w at 0 / payload) 14 k, lt-ltb (arguments (getD w at 0)) 5 l, ← e, t, ← d, s) h
 
   -- ---- in the inbox
-  pub arrived-other : (getD w (at + 1) 0 / 131072 ≡ 384 + a → ⊥) → false ≡ arrivedAt K a W w at
+  pub arrived-other : (getD w (at + 1) 0 / ownerUnit ≡ 384 + a → ⊥) → false ≡ arrivedAt K a W w at
   unfolding arrivedAt
-  arrived-other h = rw (ne-eqb (getD w (at + 1) 0 / 131072) (384 + a) h)
+  arrived-other h = rw (ne-eqb (getD w (at + 1) 0 / ownerUnit) (384 + a) h)
 
-  module _ (o : getD w (at + 1) 0 / 131072 ≡ 384 + a) (v : Bool) (e : v ≡ within (holds true K a) (valueAt (getD w (at + 1) 0))) where
+  module _ (o : getD w (at + 1) 0 / ownerUnit ≡ 384 + a) (v : Bool) (e : v ≡ within (holds true K a) (valueAt (getD w (at + 1) 0))) where
     pub arrived-value : v ≡ false → false ≡ arrivedAt K a W w at
     unfolding arrivedAt holds
-    arrived-value t = rw (eq-eqb (getD w (at + 1) 0 / 131072) (384 + a) o, ← e, t)
+    arrived-value t = rw (eq-eqb (getD w (at + 1) 0 / ownerUnit) (384 + a) o, ← e, t)
 
     pub arrived-all : v ≡ true → (r : Bool) → r ≡ sentAt K a W w at → r ≡ arrivedAt K a W w at
     unfolding arrivedAt holds
-    arrived-all t r h = rw (eq-eqb (getD w (at + 1) 0 / 131072) (384 + a) o, ← e, t) h
+    arrived-all t r h = rw (eq-eqb (getD w (at + 1) 0 / ownerUnit) (384 + a) o, ← e, t) h
 
   -- ---- at a future
   module _ (m lo : ℕ) where
     abbrev aimed : ℕ
-    aimed = getD w (at + 1) 0 % 65536
+    aimed = getD w (at + 1) 0 % numberLimit
 
-    pub waits-other : (getD w (at + 1) 0 / 65536 ≡ 768 + 2 * a → ⊥) → false ≡ waitsAt K a W w m lo at
+    pub waits-other : (getD w (at + 1) 0 / numberLimit ≡ 768 + 2 * a → ⊥) → false ≡ waitsAt K a W w m lo at
     unfolding waitsAt
-    waits-other h = rw (ne-eqb (getD w (at + 1) 0 / 65536) (768 + 2 * a) h)
+    waits-other h = rw (ne-eqb (getD w (at + 1) 0 / numberLimit) (768 + 2 * a) h)
 
-    module _ (o : getD w (at + 1) 0 / 65536 ≡ 768 + 2 * a) where
-      pub waits-low : getD w (at + 1) 0 % 65536 < lo → false ≡ waitsAt K a W w m lo at
+    module _ (o : getD w (at + 1) 0 / numberLimit ≡ 768 + 2 * a) where
+      pub waits-low : getD w (at + 1) 0 % numberLimit < lo → false ≡ waitsAt K a W w m lo at
       unfolding waitsAt
-      waits-low h = rw (eq-eqb (getD w (at + 1) 0 / 65536) (768 + 2 * a) o, lt-leb lo aimed h)
+      waits-low h = rw (eq-eqb (getD w (at + 1) 0 / numberLimit) (768 + 2 * a) o, lt-leb lo aimed h)
 
-      module _ (l : lo ≤ getD w (at + 1) 0 % 65536) where
-        pub waits-high : m ≤ getD w (at + 1) 0 % 65536 → false ≡ waitsAt K a W w m lo at
+      module _ (l : lo ≤ getD w (at + 1) 0 % numberLimit) where
+        pub waits-high : m ≤ getD w (at + 1) 0 % numberLimit → false ≡ waitsAt K a W w m lo at
         unfolding waitsAt
-        waits-high h = rw (eq-eqb (getD w (at + 1) 0 / 65536) (768 + 2 * a) o, le-leb lo aimed l, le-ltb aimed m h)
+        waits-high h = rw (eq-eqb (getD w (at + 1) 0 / numberLimit) (768 + 2 * a) o, le-leb lo aimed l, le-ltb aimed m h)
 
-        module _ (i : getD w (at + 1) 0 % 65536 < m) where
-          pub waits-kind : (getD w (720 + 8 * (getD w (at + 1) 0 % 65536)) 0 % 8 ≡ 3 → ⊥) → false ≡ waitsAt K a W w m lo at
+        module _ (i : getD w (at + 1) 0 % numberLimit < m) where
+          pub waits-kind : (getD w (madeAt + slotSize * (getD w (at + 1) 0 % numberLimit)) 0 % 8 ≡ 3 → ⊥) → false ≡ waitsAt K a W w m lo at
           unfolding waitsAt
-          waits-kind h = rw (eq-eqb (getD w (at + 1) 0 / 65536) (768 + 2 * a) o, le-leb lo aimed l, lt-ltb aimed m i, ne-eqb (getD w (720 + 8 * aimed) 0 % 8) 3 h)
+          waits-kind h = rw (eq-eqb (getD w (at + 1) 0 / numberLimit) (768 + 2 * a) o, le-leb lo aimed l, lt-ltb aimed m i, ne-eqb (getD w (madeAt + slotSize * aimed) 0 % 8) 3 h)
 
-          pub waits-all : getD w (720 + 8 * (getD w (at + 1) 0 % 65536)) 0 % 8 ≡ 3 → (r : Bool) → r ≡ sentAt K a W w at → r ≡ waitsAt K a W w m lo at
+          pub waits-all : getD w (madeAt + slotSize * (getD w (at + 1) 0 % numberLimit)) 0 % 8 ≡ 3 → (r : Bool) → r ≡ sentAt K a W w at → r ≡ waitsAt K a W w m lo at
           unfolding waitsAt
-          waits-all h r s = rw (eq-eqb (getD w (at + 1) 0 / 65536) (768 + 2 * a) o, le-leb lo aimed l, lt-ltb aimed m i, eq-eqb (getD w (720 + 8 * aimed) 0 % 8) 3 h) s
+          waits-all h r s = rw (eq-eqb (getD w (at + 1) 0 / numberLimit) (768 + 2 * a) o, le-leb lo aimed l, lt-ltb aimed m i, eq-eqb (getD w (madeAt + slotSize * aimed) 0 % 8) 3 h) s
 
   -- ---- lists
   module _ (n : ℕ) where
-    pub inbox-none : n ≡ 0 → true ≡ inboxAt K a W w n at
-    unfolding inboxAt
+    pub inbox-none : n ≡ 0 → true ≡ arrivalsAt K a W w n at
+    unfolding arrivalsAt
     inbox-none e = rw e
 
-    pub waiting-none : (m lo : ℕ) → n ≡ 0 → true ≡ waitingAt K a W w m n lo at
-    unfolding waitingAt
+    pub waiting-none : (m lo : ℕ) → n ≡ 0 → true ≡ waitersAt K a W w m n lo at
+    unfolding waitersAt
     waiting-none m lo e = rw e
 
     module _ (z : n ≡ 0 → ⊥) (v : Bool) where
-      step-inbox : (k : ℕ) → n ≡ suc k → inboxAt K a W w n at ≡ (arrivedAt K a W w at && inboxAt K a W w k (at + 6))
-      unfolding inboxAt
+      step-inbox : (k : ℕ) → n ≡ suc k → arrivalsAt K a W w n at ≡ (arrivedAt K a W w at && arrivalsAt K a W w k (at + 6))
+      unfolding arrivalsAt
       step-inbox k e = rw e
 
-      pub inbox-stop : v ≡ arrivedAt K a W w at → v ≡ false → false ≡ inboxAt K a W w n at
+      pub inbox-stop : v ≡ arrivedAt K a W w at → v ≡ false → false ≡ arrivalsAt K a W w n at
       inbox-stop e t = rw (step-inbox (n - 1) (omega arith), ← e, t)
 
-      pub inbox-more : v ≡ arrivedAt K a W w at → v ≡ true → (r : Bool) → r ≡ inboxAt K a W w (n - 1) (at + 6) → r ≡ inboxAt K a W w n at
+      pub inbox-more : v ≡ arrivedAt K a W w at → v ≡ true → (r : Bool) → r ≡ arrivalsAt K a W w (n - 1) (at + 6) → r ≡ arrivalsAt K a W w n at
       inbox-more e t r h = rw (step-inbox (n - 1) (omega arith), ← e, t) h
 
       module _ (m lo : ℕ) where
-        step-waiting : (k : ℕ) → n ≡ suc k → waitingAt K a W w m n lo at ≡ (waitsAt K a W w m lo at && waitingAt K a W w m k (getD w (at + 1) 0 % 65536) (at + 6))
-        unfolding waitingAt
+        step-waiting : (k : ℕ) → n ≡ suc k → waitersAt K a W w m n lo at ≡ (waitsAt K a W w m lo at && waitersAt K a W w m k (getD w (at + 1) 0 % numberLimit) (at + 6))
+        unfolding waitersAt
         step-waiting k e = rw e
 
-        pub waiting-stop : v ≡ waitsAt K a W w m lo at → v ≡ false → false ≡ waitingAt K a W w m n lo at
+        pub waiting-stop : v ≡ waitsAt K a W w m lo at → v ≡ false → false ≡ waitersAt K a W w m n lo at
         waiting-stop e t = rw (step-waiting (n - 1) (omega arith), ← e, t)
 
-        pub waiting-more : v ≡ waitsAt K a W w m lo at → v ≡ true → (r : Bool) → r ≡ waitingAt K a W w m (n - 1) (getD w (at + 1) 0 % 65536) (at + 6) → r ≡ waitingAt K a W w m n lo at
+        pub waiting-more : v ≡ waitsAt K a W w m lo at → v ≡ true → (r : Bool) → r ≡ waitersAt K a W w m (n - 1) (getD w (at + 1) 0 % numberLimit) (at + 6) → r ≡ waitersAt K a W w m n lo at
         waiting-more e t r h = rw (step-waiting (n - 1) (omega arith), ← e, t) h
 
 pub ruleset sent-laws = (needs, sent-kind, sent-many, sent-name, sent-values, sent-all)

@@ -14,6 +14,7 @@ use Rattle.atlite.specs.Term.{Value, Name}
 use Rattle.atlite.specs.State.{Message, message}
 use Rattle.atlite.specs.Valid.{sendable}
 use Rattle.atlite.specs.Facts.{and₅, both₂, both₄}
+use Rattle.layout.specs.Numbers.{payload, nameLimit, tagLimit}
 use Rattle.layout.specs.Layout.{encodeMessage}
 use Rattle.layout.specs.Slots.{MessageFits}
 use Rattle.layout.specs.Parse.{got, valueAt, nameOf, valuesAt, zerosAt, parseMessage}
@@ -37,10 +38,10 @@ is-some (some a) = refl
 
 -- the tests of a message that was got
 pub record Facts (w : List ℕ) (at : ℕ) (v : Value) (m : Name) (vs : List Value) : Type 0 where
-  pub kind : eqb (getD w at 0 / 16777216) 14 ≡ true
+  pub kind : eqb (getD w at 0 / payload) 14 ≡ true
   pub few : ltb (arguments (getD w at 0)) 5 ≡ true
   pub rest : zerosAt w (4 - arguments (getD w at 0)) (at + 2 + arguments (getD w at 0)) ≡ true
-  pub name : nameOf (low (getD w at 0) / 128 % 4) (low (getD w at 0) % 128) ≡ some m
+  pub name : nameOf (low (getD w at 0) / nameLimit % tagLimit) (low (getD w at 0) % nameLimit) ≡ some m
   pub to : valueAt (getD w (at + 1) 0) ≡ some v
   pub values : valuesAt w (arguments (getD w at 0)) (at + 2) ≡ some vs
 
@@ -53,11 +54,11 @@ all-facts w at =
     let F = FactsOf w at in
     let x = getD w at 0 in
     let n = arguments x in
-    let name = nameOf (low x / 128 % 4) (low x % 128) in
+    let name = nameOf (low x / nameLimit % tagLimit) (low x % nameLimit) in
     let to = valueAt (getD w (at + 1) 0) in
     let values = valuesAt w n (at + 2) in
     ended-sure F (leb (at + 6) (length w)) _ (λ l.
-    ended-sure F (eqb (x / 16777216) 14) _ (λ k.
+    ended-sure F (eqb (x / payload) 14) _ (λ k.
     ended-sure F (ltb n 5) _ (λ c.
     ended-sure F (zerosAt w (4 - n) (at + 2 + n)) _ (λ z.
     ended-behind (λ m. name ≡ some m) F name _ (is-some name) (λ m i.
@@ -83,8 +84,8 @@ module _ (K : List ℕ) (a W : ℕ) (w : List ℕ) (at : ℕ) where
   sent-sound v l t h =
       let x = getD w at 0 in
       let n = arguments x in
-      let r = and₅ (eqb (x / 16777216) 14) (ltb n 5) (sendIn W (low x)) (within (all (allowed K a)) (valuesAt w n (at + 2))) (zerosAt w (4 - n) (at + 2 + n)) h in
-      let s = within-true (λ m. sendable W m n) (nameOf (low x / 128 % 4) (low x % 128)) (r .2) in
+      let r = and₅ (eqb (x / payload) 14) (ltb n 5) (sendIn W (low x)) (within (all (allowed K a)) (valuesAt w n (at + 2))) (zerosAt w (4 - n) (at + 2 + n)) h in
+      let s = within-true (λ m. sendable W m n) (nameOf (low x / nameLimit % tagLimit) (low x % nameLimit)) (r .2) in
       let q = within-true (all (allowed K a)) _ (r .3) in
       let f : Facts w at v (s .0) (q .0) = record { kind = r .0; few = r .1; rest = r .4; name = s .1; to = t; values = q .1 } in
       let b = ltb-true n 5 (r .1) in
@@ -101,4 +102,4 @@ module _ (K : List ℕ) (a W : ℕ) (w : List ℕ) (at : ℕ) where
       let b = ltb-true n 5 (f .few) in
       let c = holding (ValuesAt w n (at + 2)) (valuesAt w n (at + 2)) vs (values-at w n (at + 2) (omega arith)) (f .values) in
       let t : sendable W m n ≡ true = rw (c .1) at s in
-      (f .to, both₂ (both₄ (f .kind) (f .few) (some-within (λ m. sendable W m n) (nameOf (low x / 128 % 4) (low x % 128)) m (f .name) t) (some-within (all (allowed K a)) _ vs (f .values) q)) (f .rest))
+      (f .to, both₂ (both₄ (f .kind) (f .few) (some-within (λ m. sendable W m n) (nameOf (low x / nameLimit % tagLimit) (low x % nameLimit)) m (f .name) t) (some-within (all (allowed K a)) _ vs (f .values) q)) (f .rest))

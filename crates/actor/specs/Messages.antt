@@ -14,6 +14,7 @@ use Rattle.atlite.specs.State.{Message, message}
 use Rattle.atlite.specs.Valid.{All, Sendable, OwnValue, Arrived}
 use Rattle.atlite.specs.Facts.{and₂, and₃, and₅, both₂, both₃, both₄}
 use Rattle.invariant.specs.TermTests.{Is, all-is, is-all}
+use Rattle.layout.specs.Numbers.{payload, numberLimit, ownerUnit, ownerLimit, slotSize, madeAt}
 use Rattle.layout.specs.Pack.{flat}
 use Rattle.layout.specs.PackLaws.{pack-low, pack-high, Each}
 use Rattle.layout.specs.Terms.{encodeValue, seriesBit}
@@ -29,43 +30,43 @@ use Rattle.layout.specs.Spans.{Spans, drop-past, span-none, span-end, span-of, 
 use Rattle.wellformed.specs.Kinds.{allowed}
 use Rattle.wellformed.specs.Words.{within}
 use Rattle.wellformed.specs.WordLaws.{within-true}
-use Rattle.actor.specs.Tests.{sentAt, arrivedAt, inboxAt, waitsAt, waitingAt}
+use Rattle.actor.specs.Tests.{sentAt, arrivedAt, arrivalsAt, waitsAt, waitersAt}
 use Rattle.actor.specs.MessageTests.{some-within, sent-sound, sent-complete}
 
 -- ---- receivers
 -- an actor's own, told from the word alone
-own-word : (a x : ℕ) (v : Value) → a < 128 → ValueFits v → encodeValue v ≡ x → x / 131072 ≡ 384 + a → OwnValue a v
+own-word : (a x : ℕ) (v : Value) → a < ownerLimit → ValueFits v → encodeValue v ≡ x → x / ownerUnit ≡ 384 + a → OwnValue a v
 unfolding encodeValue
-own-word a x null l f e h = let z : x ≡ 16777216 = sym e in omega arith
-own-word a x (num n) l f e h = let z : n + 33554432 ≡ x = e in omega arith
+own-word a x null l f e h = let z : x ≡ payload = sym e in omega arith
+own-word a x (num n) l f e h = let z : n + 2 * payload ≡ x = e in omega arith
 own-word a x (ref b s n) l f e h =
-    let z : n + 65536 * (seriesBit s + 2 * b) + 50331648 ≡ x = e in
+    let z : n + numberLimit * (seriesBit s + 2 * b) + 3 * payload ≡ x = e in
     let t = bit s in
     let i = f .0 in
     omega arith
 
-word-own : (a : ℕ) (v : Value) → ValueFits v → OwnValue a v → encodeValue v / 131072 ≡ 384 + a
+word-own : (a : ℕ) (v : Value) → ValueFits v → OwnValue a v → encodeValue v / ownerUnit ≡ 384 + a
 unfolding encodeValue
 word-own a null f h = absurd h
 word-own a (num n) f h = absurd h
 word-own a (ref b s n) f h =
     let t = bit s in
     let i = f .0 in
-    let z : n + 65536 * (seriesBit s + 2 * b) + 16777216 * 3 ≡ n + 65536 * seriesBit s + 131072 * (384 + a) = omega arith in
-    ap (λ k. k / 131072) z ∙ pack-high 131072 (n + 65536 * seriesBit s) (384 + a) (omega arith)
+    let z : n + numberLimit * (seriesBit s + 2 * b) + payload * 3 ≡ n + numberLimit * seriesBit s + ownerUnit * (384 + a) = omega arith in
+    ap (λ k. k / ownerUnit) z ∙ pack-high ownerUnit (n + numberLimit * seriesBit s) (384 + a) (omega arith)
 
 -- a future of series m
-future-word : (a x : ℕ) → a < 128 → x / 65536 ≡ 768 + 2 * a → valueAt x ≡ some (ref a made (x % 65536))
+future-word : (a x : ℕ) → a < ownerLimit → x / numberLimit ≡ 768 + 2 * a → valueAt x ≡ some (ref a made (x % numberLimit))
 unfolding encodeValue seriesBit
 future-word a x l h =
-    let z : encodeValue (ref a made (x % 65536)) ≡ x = omega arith in
-    ap valueAt (sym z) ∙ value-read (ref a made (x % 65536)) (omega arith, l)
+    let z : encodeValue (ref a made (x % numberLimit)) ≡ x = omega arith in
+    ap valueAt (sym z) ∙ value-read (ref a made (x % numberLimit)) (omega arith, l)
 
-word-future : (a n : ℕ) → n < 65536 → (encodeValue (ref a made n) / 65536 ≡ 768 + 2 * a) × (encodeValue (ref a made n) % 65536 ≡ n)
+word-future : (a n : ℕ) → n < numberLimit → (encodeValue (ref a made n) / numberLimit ≡ 768 + 2 * a) × (encodeValue (ref a made n) % numberLimit ≡ n)
 unfolding encodeValue seriesBit
 word-future a n l =
-    let z : n + 65536 * (0 + 2 * a) + 16777216 * 3 ≡ n + 65536 * (768 + 2 * a) = omega arith in
-    (ap (λ k. k / 65536) z ∙ pack-high 65536 n (768 + 2 * a) l, ap (λ k. k % 65536) z ∙ pack-low 65536 n (768 + 2 * a) l)
+    let z : n + numberLimit * (0 + 2 * a) + payload * 3 ≡ n + numberLimit * (768 + 2 * a) = omega arith in
+    (ap (λ k. k / numberLimit) z ∙ pack-high numberLimit n (768 + 2 * a) l, ap (λ k. k % numberLimit) z ∙ pack-low numberLimit n (768 + 2 * a) l)
 
 -- ---- lists of messages
 module _ (w : List ℕ) where
@@ -89,7 +90,7 @@ module _ (w : List ℕ) where
       let i = span-inside w at (at + length x) x (span-of w at x y d) (omega arith) in
       (d, omega (arith, i .1), rw l at (drop-past w at x y d))
 
-module _ (K : List ℕ) (a W : ℕ) (w : List ℕ) (l : a < 128) where
+module _ (K : List ℕ) (a W : ℕ) (w : List ℕ) (l : a < ownerLimit) where
   abbrev P : Value → Type 0
   P = Is (allowed K a)
 
@@ -98,11 +99,11 @@ module _ (K : List ℕ) (a W : ℕ) (w : List ℕ) (l : a < 128) where
   unfolding arrivedAt
   arrived-sound at i h =
       let x = getD w (at + 1) 0 in
-      let r = and₃ (eqb (x / 131072) (384 + a)) (within (allowed K a) (valueAt x)) (sentAt K a W w at) h in
+      let r = and₃ (eqb (x / ownerUnit) (384 + a)) (within (allowed K a) (valueAt x)) (sentAt K a W w at) h in
       let v = within-true (allowed K a) (valueAt x) (r .1) in
       let z = value-sound x (v .0) (v .1) in
       let s = sent-sound K a W w at (v .0) i (v .1) (r .2) in
-      (message (v .0) (s .0) (s .1), s .2 .0, (own-word a x (v .0) l (z .0) (z .1) (eqb-true (x / 131072) (384 + a) (r .0)), v .2, (s .2 .1, all-is (allowed K a) P (λ y k. k) (s .1) (s .2 .2))))
+      (message (v .0) (s .0) (s .1), s .2 .0, (own-word a x (v .0) l (z .0) (z .1) (eqb-true (x / ownerUnit) (384 + a) (r .0)), v .2, (s .2 .1, all-is (allowed K a) P (λ y k. k) (s .1) (s .2 .2))))
 
   arrived-complete : (at : ℕ) (m : Message) (r : List ℕ) → at + 6 ≤ length w → MessageFits m → drop at w ≡ encodeMessage m ++ r → Arrived W P a m → arrivedAt K a W w at ≡ true
   unfolding arrivedAt
@@ -110,24 +111,24 @@ module _ (K : List ℕ) (a W : ℕ) (w : List ℕ) (l : a < 128) where
       let x = getD w (at + 1) 0 in
       let s = sent-complete K a W w at v m vs r i f e (h .2 .0) (is-all (allowed K a) P (λ y k. k) vs (h .2 .1)) in
       let z = value-sound x v (s .0) in
-      let o : x / 131072 ≡ 384 + a = ap (λ k. k / 131072) (sym (z .1)) ∙ word-own a v (f .0) (h .0) in
-      both₃ (eq-eqb (x / 131072) (384 + a) o) (some-within (allowed K a) (valueAt x) v (s .0) (h .1)) (s .1)
+      let o : x / ownerUnit ≡ 384 + a = ap (λ k. k / ownerUnit) (sym (z .1)) ∙ word-own a v (f .0) (h .0) in
+      both₃ (eq-eqb (x / ownerUnit) (384 + a) o) (some-within (allowed K a) (valueAt x) v (s .0) (h .1)) (s .1)
 
   -- so many messages of an inbox from one position to another
   abbrev pub InboxIs : ℕ → ℕ → List Message → Type 0
   InboxIs c at q = (length q ≡ c) × Spans w at (at + 6 * c) (flat encodeMessage q) × Each MessageFits q × All (Arrived W P a) q
 
-  pub inbox-sound : (c at : ℕ) → at + 6 * c ≤ length w → inboxAt K a W w c at ≡ true → (q : List Message) × InboxIs c at q
-  unfolding inboxAt flat
+  pub inbox-sound : (c at : ℕ) → at + 6 * c ≤ length w → arrivalsAt K a W w c at ≡ true → (q : List Message) × InboxIs c at q
+  unfolding arrivalsAt flat
   inbox-sound zero at i h = ([], (refl, span-end w at at (at + 6 * 0) [] (span-none w at) (omega arith), tt, tt))
   inbox-sound (suc c) at i h =
-      let r = and₂ (arrivedAt K a W w at) (inboxAt K a W w c (at + 6)) h in
+      let r = and₂ (arrivedAt K a W w at) (arrivalsAt K a W w c (at + 6)) h in
       let m = arrived-sound at (omega arith) (r .0) in
       let q = inbox-sound c (at + 6) (omega arith) (r .1) in
       (m .0 ∷ q .0, (ap suc (q .1 .0), messages-more w at c (m .0) (q .0) (m .1) (q .1 .1), (m .1 .0, q .1 .2), (m .2, q .1 .3)))
 
-  pub inbox-complete : (q : List Message) (at : ℕ) (r : List ℕ) → drop at w ≡ flat encodeMessage q ++ r → Each MessageFits q → All (Arrived W P a) q → inboxAt K a W w (length q) at ≡ true
-  unfolding inboxAt
+  pub inbox-complete : (q : List Message) (at : ℕ) (r : List ℕ) → drop at w ≡ flat encodeMessage q ++ r → Each MessageFits q → All (Arrived W P a) q → arrivalsAt K a W w (length q) at ≡ true
+  unfolding arrivalsAt
   inbox-complete [] at r e f h = refl
   inbox-complete (m ∷ q) at r e f h =
       let d = messages-first w at m q r (f .0) e in
@@ -137,28 +138,28 @@ module _ (K : List ℕ) (a W : ℕ) (w : List ℕ) (l : a < 128) where
   -- at one of M entities, from the number lo on, whose slot says that it is an open future
   abbrev pub WaitsFrom : ℕ → ℕ → Message → Type 0
   WaitsFrom M lo (message v m vs) =
-      (v ≡ ref a made (aimOf v)) × (lo ≤ aimOf v) × (aimOf v < M) × (getD w (720 + 8 * aimOf v) 0 % 8 ≡ 3) × Sendable W P m vs
+      (v ≡ ref a made (aimOf v)) × (lo ≤ aimOf v) × (aimOf v < M) × (getD w (madeAt + slotSize * aimOf v) 0 % 8 ≡ 3) × Sendable W P m vs
 
   abbrev pub Ordered : ℕ → ℕ → List Message → Type 0
   Ordered M lo [] = Unit {0}
   Ordered M lo (m ∷ q) = WaitsFrom M lo m × Ordered M (aim m) q
 
-  waits-sound : (M lo at : ℕ) → at + 6 ≤ length w → waitsAt K a W w M lo at ≡ true → (m : Message) × MessageAt w at m (at + 6) × WaitsFrom M lo m × (aim m ≡ getD w (at + 1) 0 % 65536)
+  waits-sound : (M lo at : ℕ) → at + 6 ≤ length w → waitsAt K a W w M lo at ≡ true → (m : Message) × MessageAt w at m (at + 6) × WaitsFrom M lo m × (aim m ≡ getD w (at + 1) 0 % numberLimit)
   unfolding waitsAt aim aimOf
   waits-sound M lo at i h =
       let x = getD w (at + 1) 0 in
-      let n = x % 65536 in
-      let r = and₅ (eqb (x / 65536) (768 + 2 * a)) (leb lo n) (ltb n M) (eqb (getD w (720 + 8 * n) 0 % 8) 3) (sentAt K a W w at) h in
-      let v = future-word a x l (eqb-true (x / 65536) (768 + 2 * a) (r .0)) in
+      let n = x % numberLimit in
+      let r = and₅ (eqb (x / numberLimit) (768 + 2 * a)) (leb lo n) (ltb n M) (eqb (getD w (madeAt + slotSize * n) 0 % 8) 3) (sentAt K a W w at) h in
+      let v = future-word a x l (eqb-true (x / numberLimit) (768 + 2 * a) (r .0)) in
       let s = sent-sound K a W w at (ref a made n) i v (r .4) in (
         message (ref a made n) (s .0) (s .1),
         s .2 .0,
-        (refl, leb-true lo n (r .1), ltb-true n M (r .2), eqb-true (getD w (720 + 8 * n) 0 % 8) 3 (r .3), (s .2 .1, all-is (allowed K a) P (λ y k. k) (s .1) (s .2 .2))),
+        (refl, leb-true lo n (r .1), ltb-true n M (r .2), eqb-true (getD w (madeAt + slotSize * n) 0 % 8) 3 (r .3), (s .2 .1, all-is (allowed K a) P (λ y k. k) (s .1) (s .2 .2))),
         refl,
       )
 
-  waits-complete : (M lo at : ℕ) (m : Message) (r : List ℕ) → M ≤ 65536 → at + 6 ≤ length w → MessageFits m → drop at w ≡ encodeMessage m ++ r → WaitsFrom M lo m
-      → (waitsAt K a W w M lo at ≡ true) × (getD w (at + 1) 0 % 65536 ≡ aim m)
+  waits-complete : (M lo at : ℕ) (m : Message) (r : List ℕ) → M ≤ numberLimit → at + 6 ≤ length w → MessageFits m → drop at w ≡ encodeMessage m ++ r → WaitsFrom M lo m
+      → (waitsAt K a W w M lo at ≡ true) × (getD w (at + 1) 0 % numberLimit ≡ aim m)
   unfolding waitsAt aim
   waits-complete M lo at (message v m vs) r b i f e h =
       let x = getD w (at + 1) 0 in
@@ -167,28 +168,28 @@ module _ (K : List ℕ) (a W : ℕ) (w : List ℕ) (l : a < 128) where
       let z = value-sound x v (s .0) in
       let d : encodeValue (ref a made k) ≡ x = ap encodeValue (sym (h .0)) ∙ z .1 in
       let g = word-future a k (omega (arith, h .2)) in
-      let o : x / 65536 ≡ 768 + 2 * a = ap (λ y. y / 65536) (sym d) ∙ g .0 in
-      let n : x % 65536 ≡ k = ap (λ y. y % 65536) (sym d) ∙ g .1 in (
-        both₂ (both₄ (eq-eqb (x / 65536) (768 + 2 * a) o) (rw n (le-leb lo k (h .1))) (rw n (lt-ltb k M (h .2))) (rw n (eq-eqb (getD w (720 + 8 * k) 0 % 8) 3 (h .3)))) (s .1),
+      let o : x / numberLimit ≡ 768 + 2 * a = ap (λ y. y / numberLimit) (sym d) ∙ g .0 in
+      let n : x % numberLimit ≡ k = ap (λ y. y % numberLimit) (sym d) ∙ g .1 in (
+        both₂ (both₄ (eq-eqb (x / numberLimit) (768 + 2 * a) o) (rw n (le-leb lo k (h .1))) (rw n (lt-ltb k M (h .2))) (rw n (eq-eqb (getD w (madeAt + slotSize * k) 0 % 8) 3 (h .3)))) (s .1),
         n,
       )
 
   abbrev pub WaitingIs : ℕ → ℕ → ℕ → ℕ → List Message → Type 0
   WaitingIs M c lo at q = (length q ≡ c) × Spans w at (at + 6 * c) (flat encodeMessage q) × Each MessageFits q × Ordered M lo q
 
-  pub waiting-sound : (M c lo at : ℕ) → at + 6 * c ≤ length w → waitingAt K a W w M c lo at ≡ true → (q : List Message) × WaitingIs M c lo at q
-  unfolding waitingAt flat
+  pub waiting-sound : (M c lo at : ℕ) → at + 6 * c ≤ length w → waitersAt K a W w M c lo at ≡ true → (q : List Message) × WaitingIs M c lo at q
+  unfolding waitersAt flat
   waiting-sound M zero lo at i h = ([], (refl, span-end w at at (at + 6 * 0) [] (span-none w at) (omega arith), tt, tt))
   waiting-sound M (suc c) lo at i h =
-      let n = getD w (at + 1) 0 % 65536 in
-      let r = and₂ (waitsAt K a W w M lo at) (waitingAt K a W w M c n (at + 6)) h in
+      let n = getD w (at + 1) 0 % numberLimit in
+      let r = and₂ (waitsAt K a W w M lo at) (waitersAt K a W w M c n (at + 6)) h in
       let m = waits-sound M lo at (omega arith) (r .0) in
       let q = waiting-sound M c n (at + 6) (omega arith) (r .1) in
       (m .0 ∷ q .0, (ap suc (q .1 .0), messages-more w at c (m .0) (q .0) (m .1) (q .1 .1), (m .1 .0, q .1 .2), (m .2, rw (m .3) (q .1 .3))))
 
-  pub waiting-complete : (M : ℕ) (q : List Message) (lo at : ℕ) (r : List ℕ) → M ≤ 65536 → drop at w ≡ flat encodeMessage q ++ r → Each MessageFits q → Ordered M lo q
-      → waitingAt K a W w M (length q) lo at ≡ true
-  unfolding waitingAt
+  pub waiting-complete : (M : ℕ) (q : List Message) (lo at : ℕ) (r : List ℕ) → M ≤ numberLimit → drop at w ≡ flat encodeMessage q ++ r → Each MessageFits q → Ordered M lo q
+      → waitersAt K a W w M (length q) lo at ≡ true
+  unfolding waitersAt
   waiting-complete M [] lo at r b e f h = refl
   waiting-complete M (m ∷ q) lo at r b e f h =
       let d = messages-first w at m q r (f .0) e in

@@ -13,6 +13,7 @@ use Rattle.atlite.specs.State.{Field, Tag, Entity, object}
 use Rattle.atlite.specs.Valid.{namesWithin, HeldBy, WellFormedMethods, IsEntity}
 use Rattle.atlite.specs.Facts.{and₃, both₃}
 use Rattle.invariant.specs.TermTests.{Is}
+use Rattle.layout.specs.Numbers.{slotUnit, bodiesSize}
 use Rattle.layout.specs.Terms.{countMethods, encodeMethods}
 use Rattle.layout.specs.Fitting.{within-fits, count-methods}
 use Rattle.layout.specs.Layout.{slotHead, tagNumber, slot, methodsOf}
@@ -25,17 +26,17 @@ use Rattle.actor.specs.Fields.{fieldWords, five-words, fields-sound, fie
 
 -- ---- numbers
 -- a test that answers a position
-pub reached-by : (t : Bool) (x e : ℕ) → cond t x 4096 ≡ e → e ≤ 1536 → (t ≡ true) × (x ≡ e)
+pub reached-by : (t : Bool) (x e : ℕ) → cond t x 4096 ≡ e → e ≤ bodiesSize → (t ≡ true) × (x ≡ e)
 reached-by true x e h l = (refl, h)
 reached-by false x e h l = absurd (omega arith)
 
 -- a head by its digits
-head-sum : (h k f m n : ℕ) → h % 8 ≡ k → h / 8 % 8 ≡ f → h / 64 % 8 ≡ m → h / 512 ≡ n → slotHead k f m n ≡ h
+head-sum : (h k f m n : ℕ) → h % 8 ≡ k → h / 8 % 8 ≡ f → h / 64 % 8 ≡ m → h / slotUnit ≡ n → slotHead k f m n ≡ h
 unfolding slotHead
 head-sum h k f m n i j l o = omega arith
 
 -- and the digits of a head
-pub head-number : (k f m n : ℕ) → k < 8 → f < 8 → m < 8 → (slotHead k f m n / 512 ≡ n) × (slotHead k f m n / 64 % 8 ≡ m)
+pub head-number : (k f m n : ℕ) → k < 8 → f < 8 → m < 8 → (slotHead k f m n / slotUnit ≡ n) × (slotHead k f m n / 64 % 8 ≡ m)
 unfolding slotHead
 head-number k f m n i j l = (omega arith, omega arith)
 
@@ -50,7 +51,7 @@ module _ (K : List ℕ) (a W : ℕ) (w B : List ℕ) (few : W ≤ 64) where
 
   -- f answers where m methods end that begin at b, for the bodies of objects or of isolates
   pub record Judges (t : Tag) (f : ℕ → ℕ → ℕ) : Type 0 where
-    pub sound : (m b : ℕ) → f m b ≤ 1536 → (M : Methods) × MethodsAt B m b M (f m b) × (namesWithin 4 W (methodNames M) ≡ true) × WellFormedMethods M W (HeldBy t P) (this ∷ [])
+    pub sound : (m b : ℕ) → f m b ≤ bodiesSize → (M : Methods) × MethodsAt B m b M (f m b) × (namesWithin 4 W (methodNames M) ≡ true) × WellFormedMethods M W (HeldBy t P) (this ∷ [])
     pub complete : (m b e : ℕ) (M : Methods) → MethodsAt B m b M e → namesWithin 4 W (methodNames M) ≡ true → WellFormedMethods M W (HeldBy t P) (this ∷ []) → f m b ≡ e
 
   -- the n-th entity of its series in the slot at `at`, its methods from b to e
@@ -59,7 +60,7 @@ module _ (K : List ℕ) (a W : ℕ) (w B : List ℕ) (few : W ≤ 64) where
 
   -- ---- objects and isolates
   module _ (t : Tag) (f : ℕ → ℕ → ℕ) (j : Judges t f) where
-    pub object-sound : (n at b e : ℕ) → at + 8 ≤ length w → e ≤ 1536 → getD w at 0 / 512 ≡ n → getD w at 0 % 8 ≡ tagNumber t
+    pub object-sound : (n at b e : ℕ) → at + 8 ≤ length w → e ≤ bodiesSize → getD w at 0 / slotUnit ≡ n → getD w at 0 % 8 ≡ tagNumber t
         → objectEnd K a W w at b (f (getD w at 0 / 64 % 8) b) ≡ e → (F : List Field) × (M : Methods) × Here n at b (object t F M) e
     unfolding objectEnd slot methodsOf fieldWords
     object-sound n at b e i l num k h =
@@ -87,7 +88,7 @@ module _ (K : List ℕ) (a W : ℕ) (w B : List ℕ) (few : W ≤ 64) where
         (F, M, (s0, span-end B b (f m b) e (encodeMethods M) (g .1 .2) d, (q .1 .3, c, g .1 .0), (q .1 .1, q .1 .2, g .2, g .3)))
 
     pub object-complete : (n at b e : ℕ) (F : List Field) (M : Methods) → Here n at b (object t F M) e
-        → (getD w at 0 / 512 ≡ n) × (getD w at 0 % 8 ≡ tagNumber t) × (objectEnd K a W w at b (f (getD w at 0 / 64 % 8) b) ≡ e)
+        → (getD w at 0 / slotUnit ≡ n) × (getD w at 0 % 8 ≡ tagNumber t) × (objectEnd K a W w at b (f (getD w at 0 / 64 % 8) b) ≡ e)
     unfolding objectEnd slot methodsOf fieldWords
     object-complete n at b e F M h =
         let u = length F in

@@ -6,6 +6,7 @@ use mathlib.Core.List.{List, [], _∷_, _++_, append-assoc, append-nil}
 use native.Mathlib.Omega.{arith}
 use lib.ListN.{length, take, drop, getD, take-append-drop, length-drop, drop-of-length-le}
 use lib.Seq.{slice, take-append-add, drop-append-le, length-take-le, drop-drop, take-at}
+use Rattle.layout.specs.Numbers.{exprAt, inboxAt, waitingAt, madeAt, copiedAt, bodiesSize, bodiesAt, restSize, partSize}
 use Rattle.layout.specs.Pack.{zeros, pad}
 use Rattle.layout.specs.PackLaws.{pad-front}
 use Rattle.layout.specs.Writes.{zeros-split}
@@ -39,17 +40,17 @@ module _ (w : List ℕ) where
       (span-join w 4 5 6 (e ∷ []) (f ∷ []) (span-is w 4 5 e (omega arith) refl n) (span-is w 5 6 f (omega arith) refl o)))))
 
   -- the regions are all of the words
-  pub regions-all : (h e i q m c b : List ℕ) → length w ≡ 3200 → Spans w 0 16 h → Spans w 16 528 e → Spans w 528 624 i → Spans w 624 720 q → Spans w 720 976 m → Spans w 976 1104 c → Spans w 1104 3200 b
+  pub regions-all : (h e i q m c b : List ℕ) → length w ≡ partSize → Spans w 0 16 h → Spans w exprAt inboxAt e → Spans w inboxAt waitingAt i → Spans w waitingAt madeAt q → Spans w madeAt copiedAt m → Spans w copiedAt bodiesAt c → Spans w bodiesAt partSize b
       → h ++ (e ++ (i ++ (q ++ (m ++ (c ++ b))))) ≡ w
   regions-all h e i q m c b l s0 s1 s2 s3 s4 s5 s6 =
-      let t5 = span-join w 976 1104 3200 c b s5 s6 in
-      let t4 = span-join w 720 976 3200 m (c ++ b) s4 t5 in
-      let t3 = span-join w 624 720 3200 q (m ++ (c ++ b)) s3 t4 in
-      let t2 = span-join w 528 624 3200 i (q ++ (m ++ (c ++ b))) s2 t3 in
-      let t1 = span-join w 16 528 3200 e (i ++ (q ++ (m ++ (c ++ b)))) s1 t2 in
+      let t5 = span-join w copiedAt bodiesAt partSize c b s5 s6 in
+      let t4 = span-join w madeAt copiedAt partSize m (c ++ b) s4 t5 in
+      let t3 = span-join w waitingAt madeAt partSize q (m ++ (c ++ b)) s3 t4 in
+      let t2 = span-join w inboxAt waitingAt partSize i (q ++ (m ++ (c ++ b))) s2 t3 in
+      let t1 = span-join w exprAt inboxAt partSize e (i ++ (q ++ (m ++ (c ++ b)))) s1 t2 in
       let x = h ++ (e ++ (i ++ (q ++ (m ++ (c ++ b))))) in
-      let t0 : Spans w 0 3200 x = span-join w 0 16 3200 h (e ++ (i ++ (q ++ (m ++ (c ++ b))))) s0 t1 in
-      let end : length w ≤ 3200 = omega arith in
+      let t0 : Spans w 0 partSize x = span-join w 0 16 partSize h (e ++ (i ++ (q ++ (m ++ (c ++ b))))) s0 t1 in
+      let end : length w ≤ partSize = omega arith in
       sym (t0 .0 ∙ ap (λ y. x ++ y) (drop-of-length-le w end) ∙ append-nil x)
 
   -- ---- a part of the words
@@ -78,9 +79,9 @@ pub span-front : (B : List ℕ) (i : ℕ) (xs : List ℕ) → Spans B 0 i xs →
 span-front B i xs h = let c : length xs ≡ i = omega (arith, h .1) in ap (take i) (h .0) ∙ take-at xs (drop i B) i c
 
 -- the bodies and the zeros behind them are one run
-pub tail-zeros : (xs : List ℕ) → length xs ≤ 1536 → pad 2096 xs ≡ pad 1536 xs ++ zeros 560
+pub tail-zeros : (xs : List ℕ) → length xs ≤ bodiesSize → pad (bodiesSize + restSize) xs ≡ pad bodiesSize xs ++ zeros restSize
 unfolding pad
 tail-zeros xs l =
-    let n = 1536 - length xs in
-    let z : 2096 - length xs ≡ n + 560 = omega arith in
-    ap (λ i. xs ++ zeros i) z ∙ ap (λ y. xs ++ y) (zeros-split n 560) ∙ sym (append-assoc xs (zeros n) (zeros 560))
+    let n = bodiesSize - length xs in
+    let z : (bodiesSize + restSize) - length xs ≡ n + restSize = omega arith in
+    ap (λ i. xs ++ zeros i) z ∙ ap (λ y. xs ++ y) (zeros-split n restSize) ∙ sym (append-assoc xs (zeros n) (zeros restSize))

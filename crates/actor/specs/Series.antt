@@ -11,6 +11,7 @@ use lib.ListN.{length, drop, getElem?, length-append}
 use Rattle.atlite.specs.State.{Entity}
 use Rattle.atlite.specs.Valid.{Each}
 use Rattle.atlite.specs.Facts.{none-some}
+use Rattle.layout.specs.Numbers.{bodiesSize}
 use Rattle.layout.specs.Terms.{encodeMethods}
 use Rattle.layout.specs.Layout.{slot, slots, methodsOf, bodies}
 use Rattle.layout.specs.Slots.{EntityFits, EntitiesFit, slot-length}
@@ -61,14 +62,14 @@ module _ (w B : List ℕ) (E : ℕ → Entity → Type 0) where
   SeriesIs k n at b e h = (length h ≡ k) × Spans w at (at + 8 * k) (slots n h) × Spans B b e (bodies h) × EntitiesFit n h × EachFrom E n h
 
   module _ (f : ℕ → ℕ → ℕ → ℕ) where
-    module _ (sound : (n at b e : ℕ) → at + 8 ≤ length w → e ≤ 1536 → f n at b ≡ e → (o : Entity) × Stands n at b o e) where
-      pub slots-sound : (k n at b e : ℕ) → at + 8 * k ≤ length w → e ≤ 1536 → slotsEnd f k n at b ≡ e → (h : List Entity) × SeriesIs k n at b e h
+    module _ (sound : (n at b e : ℕ) → at + 8 ≤ length w → e ≤ bodiesSize → f n at b ≡ e → (o : Entity) × Stands n at b o e) where
+      pub slots-sound : (k n at b e : ℕ) → at + 8 * k ≤ length w → e ≤ bodiesSize → slotsEnd f k n at b ≡ e → (h : List Entity) × SeriesIs k n at b e h
       unfolding slotsEnd slots bodies
       slots-sound zero n at b e i l h = ([], (refl, span-end w at at (at + 8 * 0) [] (span-none w at) (omega arith), span-end B b b e [] (span-none B b) h, tt, tt))
       slots-sound (suc k) n at b e i l h =
           let x = f n at b in
-          let r = reached-by (leb x 1536) (slotsEnd f k (suc n) (at + 8) x) e h l in
-          let o = sound n at b x (omega arith) (leb-true x 1536 (r .0)) refl in
+          let r = reached-by (leb x bodiesSize) (slotsEnd f k (suc n) (at + 8) x) e h l in
+          let o = sound n at b x (omega arith) (leb-true x bodiesSize (r .0)) refl in
           let s = slots-sound k (suc n) (at + 8) x e (omega arith) l (r .1) in (
             o .0 ∷ s .0,
             (
@@ -81,7 +82,7 @@ module _ (w B : List ℕ) (E : ℕ → Entity → Type 0) where
           )
 
     module _ (complete : (n at b e : ℕ) (o : Entity) → Stands n at b o e → f n at b ≡ e) where
-      pub slots-complete : (h : List Entity) (n at b e : ℕ) (r : List ℕ) → e ≤ 1536 → drop at w ≡ slots n h ++ r → Spans B b e (bodies h) → EntitiesFit n h → EachFrom E n h
+      pub slots-complete : (h : List Entity) (n at b e : ℕ) (r : List ℕ) → e ≤ bodiesSize → drop at w ≡ slots n h ++ r → Spans B b e (bodies h) → EntitiesFit n h → EachFrom E n h
           → slotsEnd f (length h) n at b ≡ e
       unfolding slotsEnd slots bodies
       slots-complete [] n at b e r l d s g k = omega (arith, s .1)
@@ -95,5 +96,5 @@ module _ (w B : List ℕ) (E : ℕ → Entity → Type 0) where
           let c8 : drop (at + 8) w ≡ slots (suc n) h ++ r = rw eight at (drop-past w at x (slots (suc n) h ++ r) c) in
           let u = span-split B b m e y (bodies h) refl s in
           let here : f n at b ≡ m = complete n at b m o (t, u .0, g .0, k .0) in
-          let i : m ≤ 1536 = omega (arith, u .1 .1) in
-          rw (here, le-leb m 1536 i) (slots-complete h (suc n) (at + 8) m e r l c8 (u .1) (g .1) (k .1))
+          let i : m ≤ bodiesSize = omega (arith, u .1 .1) in
+          rw (here, le-leb m bodiesSize i) (slots-complete h (suc n) (at + 8) m e r l c8 (u .1) (g .1) (k .1))

@@ -12,6 +12,7 @@ use lib.Dec.{eqb, ltb, leb}
 use lib.ListN.{length, getD}
 use Rattle.atlite.specs.Base.{all}
 use Rattle.atlite.specs.Term.{made, null, ref}
+use Rattle.layout.specs.Numbers.{payload, slotUnit, bodiesSize}
 use Rattle.layout.specs.TermReading.{refIn}
 use Rattle.layout.specs.Parse.{given, valueForms, valueIn, valueAt, valuesAt, zerosAt, parseMethods}
 use Rattle.wellformed.specs.Kinds.{kindAt, kindOf, allowed, futureBy}
@@ -34,22 +35,22 @@ module _ (k : ℕ) where
 pub ruleset kind-laws = (needs, future-open, future-settled, future-none)
 
 module _ (K : List ℕ) (x : ℕ) where
-  pub future-other : (x / 16777216 ≡ 3 → ⊥) → false ≡ within (futureBy K) (valueAt x)
+  pub future-other : (x / payload ≡ 3 → ⊥) → false ≡ within (futureBy K) (valueAt x)
   unfolding valueAt valueIn within futureBy kindOf
-  future-other h = go (x / 16777216) h
+  future-other h = go (x / payload) h
     where
       null-no : (b : Bool) → false ≡ within (futureBy K) (given b (some null))
       null-no true = refl
       null-no false = refl
 
-      go : (k : ℕ) → (k ≡ 3 → ⊥) → false ≡ within (futureBy K) (getD (valueForms (x % 16777216)) k none)
+      go : (k : ℕ) → (k ≡ 3 → ⊥) → false ≡ within (futureBy K) (getD (valueForms (x % payload)) k none)
       go zero h = refl
-      go (suc zero) h = null-no (eqb (x % 16777216) 0)
+      go (suc zero) h = null-no (eqb (x % payload) 0)
       go (suc (suc zero)) h = refl
       go (suc (suc (suc zero))) h = absurd (h refl)
       go (suc (suc (suc (suc k)))) h = refl
 
-  pub future-ref : x / 16777216 ≡ 3 → (k : ℕ) → k ≡ kindOf K (refIn (x % 16777216)) → (r : Bool) → r ≡ (eqb k 3 || eqb k 4) → r ≡ within (futureBy K) (valueAt x)
+  pub future-ref : x / payload ≡ 3 → (k : ℕ) → k ≡ kindOf K (refIn (x % payload)) → (r : Bool) → r ≡ (eqb k 3 || eqb k 4) → r ≡ within (futureBy K) (valueAt x)
   unfolding valueAt valueIn within futureBy
   future-ref e k d r h = rw (e, ← d) h
 
@@ -178,18 +179,18 @@ pub ruleset object-laws = (needs, object-fields, object-last, object-size, objec
 
 -- ---- one slot
 module _ (K : List ℕ) (a W : ℕ) (w : List ℕ) (f g : ℕ → ℕ → ℕ) (n at b : ℕ) where
-  pub made-other : (getD w at 0 / 512 ≡ n → ⊥) → 4096 ≡ madeEnd K a W w f g n at b
+  pub made-other : (getD w at 0 / slotUnit ≡ n → ⊥) → 4096 ≡ madeEnd K a W w f g n at b
   unfolding madeEnd
-  made-other h = rw (ne-eqb (getD w at 0 / 512) n h)
+  made-other h = rw (ne-eqb (getD w at 0 / slotUnit) n h)
 
-  pub copied-other : (getD w at 0 / 512 ≡ n → ⊥) → 4096 ≡ copiedEnd K a W w f g n at b
+  pub copied-other : (getD w at 0 / slotUnit ≡ n → ⊥) → 4096 ≡ copiedEnd K a W w f g n at b
   unfolding copiedEnd
-  copied-other h = rw (ne-eqb (getD w at 0 / 512) n h)
+  copied-other h = rw (ne-eqb (getD w at 0 / slotUnit) n h)
 
-  module _ (i : getD w at 0 / 512 ≡ n) where
+  module _ (i : getD w at 0 / slotUnit ≡ n) where
     made-kind : (k : ℕ) → getD w at 0 % 8 ≡ k → madeEnd K a W w f g n at b ≡ getD (slotForms K a W w f g (getD w at 0 / 64 % 8) at b) k 4096
     unfolding madeEnd
-    made-kind k e = rw (eq-eqb (getD w at 0 / 512) n i, e)
+    made-kind k e = rw (eq-eqb (getD w at 0 / slotUnit) n i, e)
 
     pub made-object : getD w at 0 % 8 ≡ 1 → (r : ℕ) → r ≡ objectEnd K a W w at b (f (getD w at 0 / 64 % 8) b) → r ≡ madeEnd K a W w f g n at b
     made-object e r h = h ∙ sym (made-kind 1 e)
@@ -220,11 +221,11 @@ module _ (K : List ℕ) (a W : ℕ) (w : List ℕ) (f g : ℕ → ℕ → ℕ) (
 
     pub copied-kind : (getD w at 0 % 8 ≡ 2 → ⊥) → 4096 ≡ copiedEnd K a W w f g n at b
     unfolding copiedEnd
-    copied-kind h = rw (eq-eqb (getD w at 0 / 512) n i, ne-eqb (getD w at 0 % 8) 2 h)
+    copied-kind h = rw (eq-eqb (getD w at 0 / slotUnit) n i, ne-eqb (getD w at 0 % 8) 2 h)
 
     pub copied-all : getD w at 0 % 8 ≡ 2 → (r : ℕ) → r ≡ objectEnd K a W w at b (g (getD w at 0 / 64 % 8) b) → r ≡ copiedEnd K a W w f g n at b
     unfolding copiedEnd
-    copied-all e r h = rw (eq-eqb (getD w at 0 / 512) n i, eq-eqb (getD w at 0 % 8) 2 e) h
+    copied-all e r h = rw (eq-eqb (getD w at 0 / slotUnit) n i, eq-eqb (getD w at 0 % 8) 2 e) h
 
 pub ruleset made-slot-laws = (needs, made-other, made-object, made-isolate, made-open, made-settled, made-resolver, made-none)
 
@@ -245,14 +246,14 @@ module _ (f : ℕ → ℕ → ℕ → ℕ) (k n at b : ℕ) where
     slots-done l = let z : left ≡ 0 = omega arith in sym (h .is ∙ rw z)
 
     module _ (l : 0 < left) (r : ℕ) (d : r ≡ f m i e) where
-      step : (j : ℕ) → left ≡ suc j → slotsEnd f left m i e ≡ cond (leb r 1536) (slotsEnd f j (suc m) (i + 8) r) 4096
+      step : (j : ℕ) → left ≡ suc j → slotsEnd f left m i e ≡ cond (leb r bodiesSize) (slotsEnd f j (suc m) (i + 8) r) 4096
       unfolding slotsEnd
       step j z = rw (z, ← d)
 
-      pub slots-far : 1536 < r → 4096 ≡ slotsEnd f k n at b
-      slots-far g = sym (h .is ∙ rw (step (left - 1) (omega arith), lt-leb r 1536 g))
+      pub slots-far : bodiesSize < r → 4096 ≡ slotsEnd f k n at b
+      slots-far g = sym (h .is ∙ rw (step (left - 1) (omega arith), lt-leb r bodiesSize g))
 
-      pub slots-next : r ≤ 1536 → Left f k n at b (left - 1) (m + 1) (i + 8) r
-      slots-next g = record { is = h .is ∙ rw (step (left - 1) (omega arith), le-leb r 1536 g, ← add-one m) }
+      pub slots-next : r ≤ bodiesSize → Left f k n at b (left - 1) (m + 1) (i + 8) r
+      slots-next g = record { is = h .is ∙ rw (step (left - 1) (omega arith), le-leb r bodiesSize g, ← add-one m) }
 
 pub ruleset slots-laws = (needs, slots-start, slots-done, slots-far, slots-next)

@@ -10,12 +10,13 @@ use lib.Dec.{eqb, leb}
 use lib.ListN.{length, take, drop, getD}
 use lib.Seq.{slice}
 use Rattle.atlite.specs.Base.{sum}
-use Rattle.atlite.specs.Term.{Value, Term, nodes}
+use Rattle.atlite.specs.Term.{Value, Term, nodes, top}
 use Rattle.atlite.specs.State.{Message, O, I, Entity, Actor, isIsolate}
 use Rattle.atlite.specs.Limits.{bodyNodes, waiting, full, withinActor}
 use Rattle.atlite.specs.Valid.{WellFormed, IsEntity, IsActor}
 use Rattle.atlite.specs.Facts.{and₂, and₃, and₅, both₂, both₃, both₄}
 use Rattle.invariant.specs.TermTests.{Is}
+use Rattle.layout.specs.Numbers.{ownerLimit, exprAt, exprSize, messageSize, queueSize, inboxAt, waitingAt, slotSize, madeSize, copiedSize, madeAt, copiedAt, bodiesSize, bodiesAt, restSize, partSize}
 use Rattle.layout.specs.Pack.{zeros, pad, flat}
 use Rattle.layout.specs.PackLaws.{pad-front}
 use Rattle.layout.specs.Terms.{encodeTerm}
@@ -28,7 +29,7 @@ use Rattle.layout.specs.Arity.{nodesIn, nodes-append, term-nodes, bodies-nodes}
 use Rattle.layout.specs.Parse.{zerosAt}
 use Rattle.layout.specs.Spans.{Spans, span-join, span-end}
 use Rattle.wellformed.specs.Kinds.{allowed, futureBy}
-use Rattle.actor.specs.Tests.{inboxAt, waitingAt, madeEnd, copiedEnd, countsHold, headHolds, exprHolds, inboxHolds, waitingHolds, madeReached, copiedReached, madeHolds, copiedHolds, bodiesHold, endHolds, heapHolds, restHolds, partHolds}
+use Rattle.actor.specs.Tests.{arrivalsAt, waitersAt, madeEnd, copiedEnd, countsHold, headHolds, exprHolds, inboxHolds, waitingHolds, madeReached, copiedReached, madeHolds, copiedHolds, bodiesHold, endHolds, heapHolds, restHolds, partHolds}
 use Rattle.actor.specs.Messages.{InboxIs, inbox-sound, Ordered, WaitingIs, waiting-sound}
 use Rattle.actor.specs.Objects.{Judges}
 use Rattle.actor.specs.Entities.{made-sound, copied-sound}
@@ -43,7 +44,7 @@ unfolding queues
 no-queues E n [] f = refl
 no-queues E n (o ∷ h) f = ap₂ _++_ (isolate-waits o (f .0 .0)) (no-queues E (suc n) h (f .1))
 
-module _ (K : List ℕ) (a W : ℕ) (w : List ℕ) (few : W ≤ 64) (l : a < 128) (len : length w ≡ 3200) where
+module _ (K : List ℕ) (a W : ℕ) (w : List ℕ) (few : W ≤ 64) (l : a < ownerLimit) (len : length w ≡ partSize) where
   abbrev P : Value → Type 0
   P = Is (allowed K a)
 
@@ -55,39 +56,39 @@ module _ (K : List ℕ) (a W : ℕ) (w : List ℕ) (few : W ≤ 64) (l : a < 128
 
   -- ---- what each region holds
   pub record Head : Type 0 where
-    pub moves : getD w 0 0 ≤ 16777215
+    pub moves : getD w 0 0 ≤ top
     pub made : getD w 1 0 ≤ 32
     pub copied : getD w 2 0 ≤ 16
     pub inbox : getD w 3 0 ≤ 16
     pub waiting : getD w 4 0 ≤ 16
-    pub expr : getD w 5 0 ≤ 512
+    pub expr : getD w 5 0 ≤ exprSize
     pub rest : zerosAt w 10 6 ≡ true
 
   record ExprIs (t : Term) : Type 0 where
     pub fits : Fits t
     pub holds : WellFormed t W P []
     pub count : length (encodeTerm t) ≡ getD w 5 0
-    pub stands : Spans w 16 528 (pad 512 (encodeTerm t))
+    pub stands : Spans w exprAt inboxAt (pad exprSize (encodeTerm t))
     pub small : nodes t ≤ 256
 
   record HeapIs (h c : List Entity) : Type 0 where
     pub countH : length h ≡ getD w 1 0
     pub countC : length c ≡ getD w 2 0
-    pub standsH : Spans w 720 976 (pad 256 (slots 0 h))
-    pub standsC : Spans w 976 1104 (pad 128 (slots 0 c))
+    pub standsH : Spans w madeAt copiedAt (pad madeSize (slots 0 h))
+    pub standsC : Spans w copiedAt bodiesAt (pad copiedSize (slots 0 c))
     pub fitsH : EntitiesFit 0 h
     pub fitsC : EntitiesFit 0 c
     pub holdsH : EachFrom E 0 h
     pub holdsC : EachFrom C 0 c
-    pub bodyWords : length (bodies h ++ bodies c) ≤ 1536
-    pub standsB : Spans w 1104 3200 (pad 1536 (bodies h ++ bodies c) ++ zeros 560)
+    pub bodyWords : length (bodies h ++ bodies c) ≤ bodiesSize
+    pub standsB : Spans w bodiesAt partSize (pad bodiesSize (bodies h ++ bodies c) ++ zeros restSize)
     pub small : sum bodyNodes h + sum bodyNodes c ≤ 768
 
   head-sound : headHolds w ≡ true → Head
   unfolding headHolds countsHold
   head-sound h =
-      let r = and₃ (leb (getD w 0 0) 16777215) (countsHold w) (zerosAt w 10 6) h in
-      let q = and₅ (leb (getD w 1 0) 32) (leb (getD w 2 0) 16) (leb (getD w 3 0) 16) (leb (getD w 4 0) 16) (leb (getD w 5 0) 512) (r .1) in
+      let r = and₃ (leb (getD w 0 0) top) (countsHold w) (zerosAt w 10 6) h in
+      let q = and₅ (leb (getD w 1 0) 32) (leb (getD w 2 0) 16) (leb (getD w 3 0) 16) (leb (getD w 4 0) 16) (leb (getD w 5 0) exprSize) (r .1) in
       record {
         moves = leb-true _ _ (r .0);
         made = leb-true _ _ (q .0);
@@ -98,12 +99,12 @@ module _ (K : List ℕ) (a W : ℕ) (w : List ℕ) (few : W ≤ 64) (l : a < 128
         rest = r .2;
       }
 
-  expr-sound : (e : ℕ) → Ends K a W (take 512 (drop 16 w)) e → Head → exprHolds w e ≡ true → (t : Term) × ExprIs t
+  expr-sound : (e : ℕ) → Ends K a W (take exprSize (drop exprAt w)) e → Head → exprHolds w e ≡ true → (t : Term) × ExprIs t
   unfolding exprHolds
   expr-sound e j g h =
       let n = getD w 5 0 in
-      let R = take 512 (drop 16 w) in
-      let r = and₃ (eqb e n) (leb (nodesIn (slice 0 n R)) 256) (zerosAt w (512 - n) (16 + n)) h in
+      let R = take exprSize (drop exprAt w) in
+      let r = and₃ (eqb e n) (leb (nodesIn (slice 0 n R)) 256) (zerosAt w (exprSize - n) (16 + n)) h in
       let d = eqb-true e n (r .0) in
       let k = g .expr in
       let t = j .sound (omega arith) in
@@ -116,90 +117,90 @@ module _ (K : List ℕ) (a W : ℕ) (w : List ℕ) (few : W ≤ 64) (l : a < 128
           fits = t .1 .0;
           holds = t .2;
           count = omega (arith, s .1);
-          stands = region-sound w 16 512 n x (omega arith) k (span-out w 16 512 n x (omega arith) (omega arith) s) (r .2);
+          stands = region-sound w exprAt exprSize n x (omega arith) k (span-out w exprAt exprSize n x (omega arith) (omega arith) s) (r .2);
           small = omega arith;
         },
       )
 
   -- the messages of a region of 96 words
-  inbox-part : Head → inboxHolds w K a W ≡ true → (q : List Message) × InboxIs K a W w l (getD w 3 0) 528 q × Spans w 528 624 (pad 96 (flat encodeMessage q))
+  inbox-part : Head → inboxHolds w K a W ≡ true → (q : List Message) × InboxIs K a W w l (getD w 3 0) inboxAt q × Spans w inboxAt waitingAt (pad queueSize (flat encodeMessage q))
   unfolding inboxHolds
   inbox-part g h =
       let n = getD w 3 0 in
       let k = g .inbox in
-      let r = and₂ (inboxAt K a W w n 528) (zerosAt w (96 - 6 * n) (528 + 6 * n)) h in
-      let q = inbox-sound K a W w l n 528 (omega arith) (r .0) in
-      (q .0, q .1, region-sound w 528 96 (6 * n) (flat encodeMessage (q .0)) (omega arith) (omega arith) (q .1 .1) (r .1))
+      let r = and₂ (arrivalsAt K a W w n inboxAt) (zerosAt w (queueSize - messageSize * n) (inboxAt + messageSize * n)) h in
+      let q = inbox-sound K a W w l n inboxAt (omega arith) (r .0) in
+      (q .0, q .1, region-sound w inboxAt queueSize (6 * n) (flat encodeMessage (q .0)) (omega arith) (omega arith) (q .1 .1) (r .1))
 
-  waiting-part : Head → waitingHolds w K a W ≡ true → (q : List Message) × WaitingIs K a W w l (getD w 1 0) (getD w 4 0) 0 624 q × Spans w 624 720 (pad 96 (flat encodeMessage q))
+  waiting-part : Head → waitingHolds w K a W ≡ true → (q : List Message) × WaitingIs K a W w l (getD w 1 0) (getD w 4 0) 0 waitingAt q × Spans w waitingAt madeAt (pad queueSize (flat encodeMessage q))
   unfolding waitingHolds
   waiting-part g h =
       let n = getD w 4 0 in
       let m = getD w 1 0 in
       let k = g .waiting in
-      let r = and₂ (waitingAt K a W w m n 0 624) (zerosAt w (96 - 6 * n) (624 + 6 * n)) h in
-      let q = waiting-sound K a W w l m n 0 624 (omega arith) (r .0) in
-      (q .0, q .1, region-sound w 624 96 (6 * n) (flat encodeMessage (q .0)) (omega arith) (omega arith) (q .1 .1) (r .1))
+      let r = and₂ (waitersAt K a W w m n 0 waitingAt) (zerosAt w (queueSize - messageSize * n) (waitingAt + messageSize * n)) h in
+      let q = waiting-sound K a W w l m n 0 waitingAt (omega arith) (r .0) in
+      (q .0, q .1, region-sound w waitingAt queueSize (6 * n) (flat encodeMessage (q .0)) (omega arith) (omega arith) (q .1 .1) (r .1))
 
   -- two series found, their bodies one behind the other
-  heap-of : (h c : List Entity) (m k e d : ℕ) → getD w 1 0 ≡ m → getD w 2 0 ≡ k → m ≤ 32 → k ≤ 16 → d ≤ 1536
-      → SeriesIs w (take 1536 (drop 1104 w)) E m 0 720 0 e h → SeriesIs w (take 1536 (drop 1104 w)) C k 0 976 e d c
-      → zerosAt w (256 - 8 * m) (720 + 8 * m) ≡ true → zerosAt w (128 - 8 * k) (976 + 8 * k) ≡ true → zerosAt w (2096 - d) (1104 + d) ≡ true
-      → nodesIn (slice 0 d (take 1536 (drop 1104 w))) ≤ 768 → HeapIs h c
+  heap-of : (h c : List Entity) (m k e d : ℕ) → getD w 1 0 ≡ m → getD w 2 0 ≡ k → m ≤ 32 → k ≤ 16 → d ≤ bodiesSize
+      → SeriesIs w (take bodiesSize (drop bodiesAt w)) E m 0 madeAt 0 e h → SeriesIs w (take bodiesSize (drop bodiesAt w)) C k 0 copiedAt e d c
+      → zerosAt w (madeSize - slotSize * m) (madeAt + slotSize * m) ≡ true → zerosAt w (copiedSize - slotSize * k) (copiedAt + slotSize * k) ≡ true → zerosAt w (bodiesSize + restSize - d) (bodiesAt + d) ≡ true
+      → nodesIn (slice 0 d (take bodiesSize (drop bodiesAt w))) ≤ 768 → HeapIs h c
   heap-of h c m k e d em ek lm lk ld sh sc zm zk zd nd =
-      let B = take 1536 (drop 1104 w) in
+      let B = take bodiesSize (drop bodiesAt w) in
       let xs = bodies h ++ bodies c in
       let s : Spans B 0 d xs = span-join B 0 e d (bodies h) (bodies c) (sh .2) (sc .2) in
-      let short : length xs ≤ 1536 = omega (arith, s .1) in
+      let short : length xs ≤ bodiesSize = omega (arith, s .1) in
       let n : nodesIn (slice 0 d B) ≡ sum bodyNodes h + sum bodyNodes c = ap nodesIn (span-front B d xs s) ∙ nodes-append (bodies h) (bodies c) ∙ ap₂ _+_ (bodies-nodes 0 h (sh .3)) (bodies-nodes 0 c (sc .3)) in
       record {
         countH = sh .0 ∙ sym em;
         countC = sc .0 ∙ sym ek;
-        standsH = region-sound w 720 256 (8 * m) (slots 0 h) (omega arith) (omega arith) (sh .1) zm;
-        standsC = region-sound w 976 128 (8 * k) (slots 0 c) (omega arith) (omega arith) (sc .1) zk;
+        standsH = region-sound w madeAt madeSize (8 * m) (slots 0 h) (omega arith) (omega arith) (sh .1) zm;
+        standsC = region-sound w copiedAt copiedSize (8 * k) (slots 0 c) (omega arith) (omega arith) (sc .1) zk;
         fitsH = sh .3;
         fitsC = sc .3;
         holdsH = sh .4;
         holdsC = sc .4;
         bodyWords = short;
-        standsB = rw (← tail-zeros xs short) (region-sound w 1104 2096 d xs (omega arith) (omega arith) (span-out w 1104 1536 d xs (omega arith) (omega arith) s) zd);
+        standsB = rw (← tail-zeros xs short) (region-sound w bodiesAt (bodiesSize + restSize) d xs (omega arith) (omega arith) (span-out w bodiesAt bodiesSize d xs (omega arith) (omega arith) s) zd);
         small = omega arith;
       }
 
-  heap-sound : (f g : ℕ → ℕ → ℕ) → Judges K a W w (take 1536 (drop 1104 w)) few O f → Judges K a W w (take 1536 (drop 1104 w)) few I g → Head → heapHolds w K a W f g ≡ true
+  heap-sound : (f g : ℕ → ℕ → ℕ) → Judges K a W w (take bodiesSize (drop bodiesAt w)) few O f → Judges K a W w (take bodiesSize (drop bodiesAt w)) few I g → Head → heapHolds w K a W f g ≡ true
       → (h : List Entity) × (c : List Entity) × HeapIs h c
   unfolding heapHolds madeHolds copiedHolds bodiesHold endHolds madeReached copiedReached
   heap-sound f g jf jg t x =
-      let B = take 1536 (drop 1104 w) in
+      let B = take bodiesSize (drop bodiesAt w) in
       let m = getD w 1 0 in
       let k = getD w 2 0 in
       let e = madeReached w K a W f g in
       let d = copiedReached w K a W f g in
       let r = and₂ (madeHolds w e) (endHolds w d) x in
       let y = and₂ (copiedHolds w d) (bodiesHold w d) (r .1) in
-      let p = and₂ (leb e 1536) (zerosAt w (256 - 8 * m) (720 + 8 * m)) (r .0) in
-      let q = and₂ (leb d 1536) (zerosAt w (128 - 8 * k) (976 + 8 * k)) (y .0) in
-      let u = and₂ (leb (nodesIn (slice 0 d B)) 768) (zerosAt w (2096 - d) (1104 + d)) (y .1) in
-      let le = leb-true e 1536 (p .0) in
-      let ld = leb-true d 1536 (q .0) in
+      let p = and₂ (leb e bodiesSize) (zerosAt w (madeSize - slotSize * m) (madeAt + slotSize * m)) (r .0) in
+      let q = and₂ (leb d bodiesSize) (zerosAt w (copiedSize - slotSize * k) (copiedAt + slotSize * k)) (y .0) in
+      let u = and₂ (leb (nodesIn (slice 0 d B)) 768) (zerosAt w (bodiesSize + restSize - d) (bodiesAt + d)) (y .1) in
+      let le = leb-true e bodiesSize (p .0) in
+      let ld = leb-true d bodiesSize (q .0) in
       let lm = t .made in
       let lk = t .copied in
-      let sh = slots-sound w B E (madeEnd K a W w f g) (λ n at b i z y v. made-sound K a W w B few f g jf jg n at b i z y v) m 0 720 0 e (omega arith) le refl in
-      let sc = slots-sound w B C (copiedEnd K a W w f g) (λ n at b i z y v. let o = copied-sound K a W w B few f g jf jg n at b i z y v in (o .0, (o .1 .0, o .1 .1, o .1 .2, (o .2, o .1 .3)))) k 0 976 e d (omega arith) ld refl in
+      let sh = slots-sound w B E (madeEnd K a W w f g) (λ n at b i z y v. made-sound K a W w B few f g jf jg n at b i z y v) m 0 madeAt 0 e (omega arith) le refl in
+      let sc = slots-sound w B C (copiedEnd K a W w f g) (λ n at b i z y v. let o = copied-sound K a W w B few f g jf jg n at b i z y v in (o .0, (o .1 .0, o .1 .1, o .1 .2, (o .2, o .1 .3)))) k 0 copiedAt e d (omega arith) ld refl in
       (sh .0, sc .0, heap-of (sh .0) (sc .0) m k e d refl refl lm lk ld (sh .1) (sc .1) (p .1) (q .1) (u .1) (leb-true (nodesIn (slice 0 d B)) 768 (u .0)))
 
   -- ---- an actor of them
   module _ (t : Term) (i q : List Message) (h c : List Entity) (g : Head) (et : ExprIs t)
-      (ei : InboxIs K a W w l (getD w 3 0) 528 i) (si : Spans w 528 624 (pad 96 (flat encodeMessage i)))
-      (eq : WaitingIs K a W w l (getD w 1 0) (getD w 4 0) 0 624 q) (sq : Spans w 624 720 (pad 96 (flat encodeMessage q))) (eh : HeapIs h c) where
+      (ei : InboxIs K a W w l (getD w 3 0) inboxAt i) (si : Spans w inboxAt waitingAt (pad queueSize (flat encodeMessage i)))
+      (eq : WaitingIs K a W w l (getD w 1 0) (getD w 4 0) 0 waitingAt q) (sq : Spans w waitingAt madeAt (pad queueSize (flat encodeMessage q))) (eh : HeapIs h c) where
     abbrev actor : Actor
     actor = record { moves = getD w 0 0; made = fill 0 h q; copied = c; inbox = i; expr = t }
 
     kinds-of : Kinds K a W w l 0 h
     kinds-of j o e =
-        let d = eh .standsH .0 ∙ pad-front 256 (slots 0 h) (drop 976 w) in
+        let d = eh .standsH .0 ∙ pad-front madeSize (slots 0 h) (drop copiedAt w) in
         let z : j ≡ 0 + j = omega arith in
-        rw z at (slots-kind w h 0 720 _ (eh .fitsH) d j o e)
+        rw z at (slots-kind w h 0 madeAt _ (eh .fitsH) d j o e)
 
     ordered : Ordered K a W w l (length h) 0 q
     ordered = rw (eh .countH) (eq .3)
@@ -210,7 +211,7 @@ module _ (K : List ℕ) (a W : ℕ) (w : List ℕ) (few : W ≤ 64) (l : a < 128
     abbrev numbers : List ℕ
     numbers = getD w 0 0 ∷ length (fill 0 h q) ∷ length c ∷ length i ∷ length (queues (fill 0 h q)) ∷ length (encodeTerm t) ∷ []
 
-    counted : Spans w 0 16 (pad 16 numbers)
+    counted : Spans w 0 16 (pad exprAt numbers)
     counted =
         let s = six-words w (getD w 0 0) (length (fill 0 h q)) (length c) (length i) (length (queues (fill 0 h q))) (length (encodeTerm t)) (omega arith)
         refl (sym (fill-length h 0 q ∙ eh .countH)) (sym (eh .countC)) (sym (ei .0)) (sym (ap length all-given ∙ eq .0)) (sym (et .count)) in
@@ -220,11 +221,11 @@ module _ (K : List ℕ) (a W : ℕ) (w : List ℕ) (few : W ≤ 64) (l : a < 128
     unfolding encodeActor
     laid-out =
         let m = fill 0 h q in
-        let x = pad 1536 (bodies m ++ bodies c) ++ zeros 560 in
-        let b6 : Spans w 1104 3200 x = rw (fill-bodies h 0 q) (eh .standsB) in
-        let b4 : Spans w 720 976 (pad 256 (slots 0 m)) = rw (fill-slots h 0 q) (eh .standsH) in
-        let b3 : Spans w 624 720 (pad 96 (flat encodeMessage (queues m))) = rw all-given sq in
-        regions-all w (pad 16 numbers) (pad 512 (encodeTerm t)) (pad 96 (flat encodeMessage i)) (pad 96 (flat encodeMessage (queues m))) (pad 256 (slots 0 m)) (pad 128 (slots 0 c)) x len counted (et .stands) si b3 b4 (eh .standsC) b6
+        let x = pad bodiesSize (bodies m ++ bodies c) ++ zeros restSize in
+        let b6 : Spans w bodiesAt partSize x = rw (fill-bodies h 0 q) (eh .standsB) in
+        let b4 : Spans w madeAt copiedAt (pad madeSize (slots 0 m)) = rw (fill-slots h 0 q) (eh .standsH) in
+        let b3 : Spans w waitingAt madeAt (pad queueSize (flat encodeMessage (queues m))) = rw all-given sq in
+        regions-all w (pad exprAt numbers) (pad exprSize (encodeTerm t)) (pad queueSize (flat encodeMessage i)) (pad queueSize (flat encodeMessage (queues m))) (pad madeSize (slots 0 m)) (pad copiedSize (slots 0 c)) x len counted (et .stands) si b3 b4 (eh .standsC) b6
 
     within : withinActor full actor ≡ true
     unfolding withinActor
@@ -235,7 +236,7 @@ module _ (K : List ℕ) (a W : ℕ) (w : List ℕ) (few : W ≤ 64) (l : a < 128
         let ck = fill-length h 0 q in
         let nb : sum bodyNodes (fill 0 h q) + sum bodyNodes c ≤ 768 = rw (fill-nodes h 0 q) (eh .small) in
         let nq : sum waiting (fill 0 h q) ≤ 16 = omega (arith, queues-count (fill 0 h q), ap length all-given, eq .0, g .waiting) in
-        both₃ (both₂ (both₄ (le-leb (getD w 0 0) 16777215 (g .moves)) (le-leb (length i) 16 (omega (arith, g .inbox))) (le-leb (length (fill 0 h q)) 32 (omega (arith, g .made))) (le-leb (length c) 16 (omega (arith, g .copied))))
+        both₃ (both₂ (both₄ (le-leb (getD w 0 0) top (g .moves)) (le-leb (length i) 16 (omega (arith, g .inbox))) (le-leb (length (fill 0 h q)) 32 (omega (arith, g .made))) (le-leb (length c) 16 (omega (arith, g .copied))))
         (le-leb _ 768 nb)) (le-leb _ 16 nq) (le-leb _ 256 (et .small))
 
     holds : IsActor W P (futureBy K) a actor
@@ -266,7 +267,7 @@ module _ (K : List ℕ) (a W : ℕ) (w : List ℕ) (few : W ≤ 64) (l : a < 128
     unfolding IsPart
     is-part = (actor, laid-out, within, holds, fits)
 
-  pub part-sound : (f g : ℕ → ℕ → ℕ) (e : ℕ) → Judges K a W w (take 1536 (drop 1104 w)) few O f → Judges K a W w (take 1536 (drop 1104 w)) few I g → Ends K a W (take 512 (drop 16 w)) e
+  pub part-sound : (f g : ℕ → ℕ → ℕ) (e : ℕ) → Judges K a W w (take bodiesSize (drop bodiesAt w)) few O f → Judges K a W w (take bodiesSize (drop bodiesAt w)) few I g → Ends K a W (take exprSize (drop exprAt w)) e
       → partHolds w K a W f g e ≡ true → IsPart K a W w
   unfolding partHolds restHolds
   part-sound f g e jf jg je x =

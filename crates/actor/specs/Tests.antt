@@ -8,8 +8,9 @@ use lib.ListN.{take, drop, getD}
 use lib.Seq.{slice}
 use lib.Dec.{eqb, ltb, leb}
 use Rattle.atlite.specs.Base.{member, all}
-use Rattle.atlite.specs.Term.{made, ref}
+use Rattle.atlite.specs.Term.{made, ref, top}
 use Rattle.atlite.specs.Valid.{isName}
+use Rattle.layout.specs.Numbers.{payload, nameLimit, tagLimit, numberLimit, ownerUnit, slotUnit, exprAt, exprSize, messageSize, queueSize, inboxAt, waitingAt, slotSize, madeSize, copiedSize, madeAt, copiedAt, bodiesSize, bodiesAt, restSize}
 use Rattle.layout.specs.Reading.{namesIn}
 use Rattle.layout.specs.Arity.{nodesIn}
 use Rattle.layout.specs.Parse.{valueAt, valuesAt, zerosAt}
@@ -19,15 +20,15 @@ use Rattle.wellformed.specs.Words.{within, sendIn}
 -- c names in seven bits each, none of them twice, and nothing behind them
 unfoldable pub namesHold : ℕ → ℕ → ℕ → Bool
 namesHold W zero x = eqb x 0
-namesHold W (suc c) x = isName W (x % 128) && not (member (x % 128) (namesIn c (x / 128))) && namesHold W c (x / 128)
+namesHold W (suc c) x = isName W (x % nameLimit) && not (member (x % nameLimit) (namesIn c (x / nameLimit))) && namesHold W c (x / nameLimit)
 
 -- the payload of a word
 abbrev pub low : ℕ → ℕ
-low x = x % 16777216
+low x = x % payload
 
 -- how many arguments a send's word says
 abbrev pub arguments : ℕ → ℕ
-arguments x = low x / 128 / 4
+arguments x = low x / nameLimit / tagLimit
 
 -- a position, if a test is true
 abbrev pub reached : Bool → ℕ → ℕ
@@ -57,7 +58,7 @@ module _ (K : List ℕ) (a W : ℕ) (w : List ℕ) where
   sentAt at =
       let x = getD w at 0 in
       let n = arguments x in
-      eqb (x / 16777216) 14
+      eqb (x / payload) 14
       && ltb n 5
       && sendIn W (low x)
       && within (all (allowed K a)) (valuesAt w n (at + 2))
@@ -67,22 +68,22 @@ module _ (K : List ℕ) (a W : ℕ) (w : List ℕ) where
   unfoldable pub arrivedAt : ℕ → Bool
   arrivedAt at =
       let x = getD w (at + 1) 0 in
-      eqb (x / 131072) (384 + a) && within (allowed K a) (valueAt x) && sentAt at
+      eqb (x / ownerUnit) (384 + a) && within (allowed K a) (valueAt x) && sentAt at
 
-  unfoldable pub inboxAt : ℕ → ℕ → Bool
-  inboxAt zero at = true
-  inboxAt (suc c) at = arrivedAt at && inboxAt c (at + 6)
+  unfoldable pub arrivalsAt : ℕ → ℕ → Bool
+  arrivalsAt zero at = true
+  arrivalsAt (suc c) at = arrivedAt at && arrivalsAt c (at + 6)
 
   -- a message that waits at one of m entities, an open future from the number `lo` on
   unfoldable pub waitsAt : ℕ → ℕ → ℕ → Bool
   waitsAt m lo at =
       let x = getD w (at + 1) 0 in
-      let n = x % 65536 in
-      eqb (x / 65536) (768 + 2 * a) && leb lo n && ltb n m && eqb (getD w (720 + 8 * n) 0 % 8) 3 && sentAt at
+      let n = x % numberLimit in
+      eqb (x / numberLimit) (768 + 2 * a) && leb lo n && ltb n m && eqb (getD w (madeAt + slotSize * n) 0 % 8) 3 && sentAt at
 
-  unfoldable pub waitingAt : ℕ → ℕ → ℕ → ℕ → Bool
-  waitingAt m zero lo at = true
-  waitingAt m (suc c) lo at = waitsAt m lo at && waitingAt m c (getD w (at + 1) 0 % 65536) (at + 6)
+  unfoldable pub waitersAt : ℕ → ℕ → ℕ → ℕ → Bool
+  waitersAt m zero lo at = true
+  waitersAt m (suc c) lo at = waitsAt m lo at && waitersAt m c (getD w (at + 1) 0 % numberLimit) (at + 6)
 
   -- ---- slots
   -- f fields of the slot at `at`
@@ -110,60 +111,60 @@ module _ (K : List ℕ) (a W : ℕ) (w : List ℕ) where
         ∷ []
 
     unfoldable pub madeEnd : ℕ → ℕ → ℕ → ℕ
-    madeEnd n at b = cond (eqb (getD w at 0 / 512) n) (getD (slotForms (getD w at 0 / 64 % 8) at b) (getD w at 0 % 8) 4096) 4096
+    madeEnd n at b = cond (eqb (getD w at 0 / slotUnit) n) (getD (slotForms (getD w at 0 / 64 % 8) at b) (getD w at 0 % 8) 4096) 4096
 
     unfoldable pub copiedEnd : ℕ → ℕ → ℕ → ℕ
     copiedEnd n at b =
-        cond (eqb (getD w at 0 / 512) n && eqb (getD w at 0 % 8) 2) (objectEnd at b (g (getD w at 0 / 64 % 8) b)) 4096
+        cond (eqb (getD w at 0 / slotUnit) n && eqb (getD w at 0 % 8) 2) (objectEnd at b (g (getD w at 0 / 64 % 8) b)) 4096
 
 -- k slots from the n-th on, each judged by f
 unfoldable pub slotsEnd : (ℕ → ℕ → ℕ → ℕ) → ℕ → ℕ → ℕ → ℕ → ℕ
 slotsEnd f zero n at b = b
-slotsEnd f (suc k) n at b = cond (leb (f n at b) 1536) (slotsEnd f k (suc n) (at + 8) (f n at b)) 4096
+slotsEnd f (suc k) n at b = cond (leb (f n at b) bodiesSize) (slotsEnd f k (suc n) (at + 8) (f n at b)) 4096
 
 -- ---- the regions of a part
 -- each with zeros behind what it holds
 module _ (w : List ℕ) where
   -- the counts, each within its limit
   unfoldable pub countsHold : Bool
-  countsHold = leb (getD w 1 0) 32 && leb (getD w 2 0) 16 && leb (getD w 3 0) 16 && leb (getD w 4 0) 16 && leb (getD w 5 0) 512
+  countsHold = leb (getD w 1 0) 32 && leb (getD w 2 0) 16 && leb (getD w 3 0) 16 && leb (getD w 4 0) 16 && leb (getD w 5 0) exprSize
 
   unfoldable pub headHolds : Bool
-  headHolds = leb (getD w 0 0) 16777215 && countsHold && zerosAt w 10 6
+  headHolds = leb (getD w 0 0) top && countsHold && zerosAt w 10 6
 
   -- an expression that ends at e
   unfoldable pub exprHolds : ℕ → Bool
   exprHolds e =
       let n = getD w 5 0 in
-      eqb e n && leb (nodesIn (slice 0 n (take 512 (drop 16 w)))) 256 && zerosAt w (512 - n) (16 + n)
+      eqb e n && leb (nodesIn (slice 0 n (take exprSize (drop exprAt w)))) 256 && zerosAt w (exprSize - n) (16 + n)
 
   -- series m and series c, whose methods end at e and at d
   unfoldable pub madeHolds : ℕ → Bool
-  madeHolds e = leb e 1536 && zerosAt w (256 - 8 * getD w 1 0) (720 + 8 * getD w 1 0)
+  madeHolds e = leb e bodiesSize && zerosAt w (madeSize - slotSize * getD w 1 0) (madeAt + slotSize * getD w 1 0)
 
   unfoldable pub copiedHolds : ℕ → Bool
-  copiedHolds d = leb d 1536 && zerosAt w (128 - 8 * getD w 2 0) (976 + 8 * getD w 2 0)
+  copiedHolds d = leb d bodiesSize && zerosAt w (copiedSize - slotSize * getD w 2 0) (copiedAt + slotSize * getD w 2 0)
 
   unfoldable pub bodiesHold : ℕ → Bool
-  bodiesHold d = leb (nodesIn (slice 0 d (take 1536 (drop 1104 w)))) 768 && zerosAt w (2096 - d) (1104 + d)
+  bodiesHold d = leb (nodesIn (slice 0 d (take bodiesSize (drop bodiesAt w)))) 768 && zerosAt w (bodiesSize + restSize - d) (bodiesAt + d)
 
   unfoldable pub endHolds : ℕ → Bool
   endHolds d = copiedHolds d && bodiesHold d
 
   module _ (K : List ℕ) (a W : ℕ) where
     unfoldable pub inboxHolds : Bool
-    inboxHolds = let n = getD w 3 0 in inboxAt K a W w n 528 && zerosAt w (96 - 6 * n) (528 + 6 * n)
+    inboxHolds = let n = getD w 3 0 in arrivalsAt K a W w n inboxAt && zerosAt w (queueSize - messageSize * n) (inboxAt + messageSize * n)
 
     unfoldable pub waitingHolds : Bool
-    waitingHolds = let n = getD w 4 0 in waitingAt K a W w (getD w 1 0) n 0 624 && zerosAt w (96 - 6 * n) (624 + 6 * n)
+    waitingHolds = let n = getD w 4 0 in waitersAt K a W w (getD w 1 0) n 0 waitingAt && zerosAt w (queueSize - messageSize * n) (waitingAt + messageSize * n)
 
     -- both series; f and g tell where methods end among the bodies
     module _ (f g : ℕ → ℕ → ℕ) where
       unfoldable pub madeReached : ℕ
-      madeReached = slotsEnd (madeEnd K a W w f g) (getD w 1 0) 0 720 0
+      madeReached = slotsEnd (madeEnd K a W w f g) (getD w 1 0) 0 madeAt 0
 
       unfoldable pub copiedReached : ℕ
-      copiedReached = slotsEnd (copiedEnd K a W w f g) (getD w 2 0) 0 976 madeReached
+      copiedReached = slotsEnd (copiedEnd K a W w f g) (getD w 2 0) 0 copiedAt madeReached
 
       unfoldable pub heapHolds : Bool
       heapHolds = madeHolds madeReached && endHolds copiedReached
@@ -176,5 +177,5 @@ module _ (w : List ℕ) where
       partHolds e = headHolds && exprHolds e && restHolds
 
 unfoldable pub Tests : Unit {0}
-unfolding namesHold sentAt arrivedAt inboxAt waitsAt waitingAt fieldsAt objectEnd plainAt openAt settledAt resolverAt madeEnd copiedEnd slotsEnd countsHold headHolds exprHolds madeHolds copiedHolds bodiesHold endHolds inboxHolds waitingHolds madeReached copiedReached heapHolds restHolds partHolds
+unfolding namesHold sentAt arrivedAt arrivalsAt waitsAt waitersAt fieldsAt objectEnd plainAt openAt settledAt resolverAt madeEnd copiedEnd slotsEnd countsHold headHolds exprHolds madeHolds copiedHolds bodiesHold endHolds inboxHolds waitingHolds madeReached copiedReached heapHolds restHolds partHolds
 Tests = tt

@@ -13,6 +13,7 @@ use lib.Seq.{length-take-le, take-at}
 use Rattle.atlite.specs.Base.{member, all, if_then_else_}
 use Rattle.atlite.specs.Term.{Value}
 use Rattle.atlite.specs.Valid.{isName}
+use Rattle.layout.specs.Numbers.{nameLimit}
 use Rattle.layout.specs.Pack.{zeros}
 use Rattle.layout.specs.PackLaws.{length-zeros}
 use Rattle.layout.specs.Reading.{namesIn}
@@ -98,17 +99,17 @@ module _ (x n y : ℕ) where
   among-none e = rw e
 
   module _ (z : n ≡ 0 → ⊥) where
-    step-among : (m : ℕ) → n ≡ suc m → member y (namesIn n x) ≡ (if eqb y (x % 128) then true else member y (namesIn m (x / 128)))
+    step-among : (m : ℕ) → n ≡ suc m → member y (namesIn n x) ≡ (if eqb y (x % nameLimit) then true else member y (namesIn m (x / nameLimit)))
     unfolding member namesIn
     step-among m k = rw k
 
-    pub among-here : y ≡ x % 128 → true ≡ member y (namesIn n x)
+    pub among-here : y ≡ x % nameLimit → true ≡ member y (namesIn n x)
     unfolding if_then_else_
-    among-here e = rw (step-among (n - 1) (omega arith), eq-eqb y (x % 128) e)
+    among-here e = rw (step-among (n - 1) (omega arith), eq-eqb y (x % nameLimit) e)
 
-    pub among-more : (y ≡ x % 128 → ⊥) → (r : Bool) → r ≡ member y (namesIn (n - 1) (x / 128)) → r ≡ member y (namesIn n x)
+    pub among-more : (y ≡ x % nameLimit → ⊥) → (r : Bool) → r ≡ member y (namesIn (n - 1) (x / nameLimit)) → r ≡ member y (namesIn n x)
     unfolding if_then_else_
-    among-more e r h = rw (step-among (n - 1) (omega arith), ne-eqb y (x % 128) e) h
+    among-more e r h = rw (step-among (n - 1) (omega arith), ne-eqb y (x % nameLimit) e) h
 
 pub ruleset among-laws = (needs, among-none, among-here, among-more)
 
@@ -117,19 +118,19 @@ module _ (W x n : ℕ) where
   unfolding namesHold
   names-none e = rw e
 
-  module _ (z : n ≡ 0 → ⊥) (v : Bool) (e : v ≡ isName W (x % 128)) where
-    step-names : (m : ℕ) → n ≡ suc m → namesHold W n x ≡ (v && not (member (x % 128) (namesIn m (x / 128))) && namesHold W m (x / 128))
+  module _ (z : n ≡ 0 → ⊥) (v : Bool) (e : v ≡ isName W (x % nameLimit)) where
+    step-names : (m : ℕ) → n ≡ suc m → namesHold W n x ≡ (v && not (member (x % nameLimit) (namesIn m (x / nameLimit))) && namesHold W m (x / nameLimit))
     unfolding namesHold
     step-names m k = rw (k, e)
 
     pub names-other : v ≡ false → false ≡ namesHold W n x
     names-other t = rw (step-names (n - 1) (omega arith), t)
 
-    module _ (t : v ≡ true) (u : Bool) (d : u ≡ member (x % 128) (namesIn (n - 1) (x / 128))) where
+    module _ (t : v ≡ true) (u : Bool) (d : u ≡ member (x % nameLimit) (namesIn (n - 1) (x / nameLimit))) where
       pub names-twice : u ≡ true → false ≡ namesHold W n x
       names-twice s = rw (step-names (n - 1) (omega arith), t, ← d, s)
 
-      pub names-more : u ≡ false → (r : Bool) → r ≡ namesHold W (n - 1) (x / 128) → r ≡ namesHold W n x
+      pub names-more : u ≡ false → (r : Bool) → r ≡ namesHold W (n - 1) (x / nameLimit) → r ≡ namesHold W n x
       names-more s r h = rw (step-names (n - 1) (omega arith), t, ← d, s) h
 
 pub ruleset names-laws = (needs, names-none, names-other, names-twice, names-more)

@@ -2,11 +2,14 @@
 ghost use mathlib.Core.Path.{_≡_};
 ghost use Prim.Native.Nat.{_+_, _*_, _≤_, _<_};
 ghost use lib.ListN.{length};
-ghost use Rattle.actor.specs.Tests.{sentAt, arrivedAt, inboxAt, waitsAt, waitingAt};
+ghost use Rattle.layout.specs.Numbers.{slotSize, madeAt};
+ghost use Rattle.actor.specs.Tests.{sentAt, arrivedAt, arrivalsAt, waitsAt, waitersAt};
 use crate::values;
-
-// Where a word's kind stands.
-const PAYLOAD: u32 = 16777216;
+use layout::MADE;
+use layout::NAME_LIMIT;
+use layout::NUMBER_LIMIT;
+use layout::OWNER_UNIT;
+use layout::PAYLOAD;
 
 // Whether the message at `at` may be sent, whoever receives it.
 fn sent(w: &[u32], at: usize, a: u32, words: u32, kinds: &[u8; 192]) -> bool
@@ -17,7 +20,7 @@ fn sent(w: &[u32], at: usize, a: u32, words: u32, kinds: &[u8; 192]) -> bool
     if x / PAYLOAD != 14 {
         return false;
     }
-    let n = (x % PAYLOAD / 128 / 4) as usize;
+    let n = (x % PAYLOAD / NAME_LIMIT / 4) as usize;
     if 5 <= n {
         return false;
     }
@@ -36,7 +39,7 @@ fn arrived(w: &[u32], at: usize, a: u32, words: u32, kinds: &[u8; 192]) -> bool
     ensures { λ r. ⌜ r ≡ arrivedAt (now (kinds .entry)) a words (now (w .entry)) at ⌝ }
 {
     let x = w[at + 1];
-    if x / 131072 != 384 + a {
+    if x / OWNER_UNIT != 384 + a {
         return false;
     }
     if wellformed::value(x, kinds, a, true) {
@@ -48,7 +51,7 @@ fn arrived(w: &[u32], at: usize, a: u32, words: u32, kinds: &[u8; 192]) -> bool
 // The same of `n` messages.
 pub fn inbox(w: &[u32], at: usize, n: usize, a: u32, words: u32, kinds: &[u8; 192]) -> bool
     requires { ⌜ (at + 6 * n ≤ length (now w)) × (words ≤ 64) × (a < 4) ⌝ }
-    ensures { λ r. ⌜ r ≡ inboxAt (now (kinds .entry)) a words (now (w .entry)) n at ⌝ }
+    ensures { λ r. ⌜ r ≡ arrivalsAt (now (kinds .entry)) a words (now (w .entry)) n at ⌝ }
 {
     if n == 0 {
         return true;
@@ -61,21 +64,21 @@ pub fn inbox(w: &[u32], at: usize, n: usize, a: u32, words: u32, kinds: &[u8; 19
 
 // Whether the message at `at` waits at an open future of the actor `a`, from the number `low` on, of `m` entities.
 fn waits(w: &[u32], at: usize, m: usize, low: usize, a: u32, words: u32, kinds: &[u8; 192]) -> bool
-    requires { ⌜ (at + 6 ≤ length (now w)) × (words ≤ 64) × (a < 4) × (720 + 8 * m ≤ length (now w)) ⌝ }
+    requires { ⌜ (at + 6 ≤ length (now w)) × (words ≤ 64) × (a < 4) × (madeAt + slotSize * m ≤ length (now w)) ⌝ }
     ensures { λ r. ⌜ r ≡ waitsAt (now (kinds .entry)) a words (now (w .entry)) m low at ⌝ }
 {
     let x = w[at + 1];
-    if x / 65536 != 768 + 2 * a {
+    if x / NUMBER_LIMIT != 768 + 2 * a {
         return false;
     }
-    let n = (x % 65536) as usize;
+    let n = (x % NUMBER_LIMIT) as usize;
     if n < low {
         return false;
     }
     if m <= n {
         return false;
     }
-    if w[720 + 8 * n] % 8 != 3 {
+    if w[MADE + 8 * n] % 8 != 3 {
         return false;
     }
     sent(w, at, a, words, kinds)
@@ -92,14 +95,14 @@ pub fn waiting(
     words: u32,
     kinds: &[u8; 192],
 ) -> bool
-    requires { ⌜ (at + 6 * n ≤ length (now w)) × (words ≤ 64) × (a < 4) × (720 + 8 * m ≤ length (now w)) ⌝ }
-    ensures { λ r. ⌜ r ≡ waitingAt (now (kinds .entry)) a words (now (w .entry)) m n low at ⌝ }
+    requires { ⌜ (at + 6 * n ≤ length (now w)) × (words ≤ 64) × (a < 4) × (madeAt + slotSize * m ≤ length (now w)) ⌝ }
+    ensures { λ r. ⌜ r ≡ waitersAt (now (kinds .entry)) a words (now (w .entry)) m n low at ⌝ }
 {
     if n == 0 {
         return true;
     }
     if waits(w, at, m, low, a, words, kinds) {
-        let next = (w[at + 1] % 65536) as usize;
+        let next = (w[at + 1] % NUMBER_LIMIT) as usize;
         return waiting(w, at + 6, n - 1, m, next, a, words, kinds);
     }
     false

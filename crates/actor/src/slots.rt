@@ -6,18 +6,16 @@ ghost use Prim.Native.Nat.{_+_, _*_, _/_, _%_, _≤_, _<_};
 ghost use lib.Dec.{eqb};
 ghost use lib.ListN.{length, getD};
 ghost use Rattle.atlite.specs.Term.{made as seriesM, ref};
+ghost use Rattle.layout.specs.Numbers.{bodiesSize};
 ghost use Rattle.layout.specs.Parse.{valueAt};
 ghost use Rattle.wellformed.specs.Kinds.{futureBy};
 ghost use Rattle.wellformed.specs.Words.{within};
 ghost use Rattle.actor.specs.Tests.{fieldsAt, objectEnd, reached, plainAt, openAt, settledAt, resolverAt, madeEnd, copiedEnd, slotsEnd};
 ghost use Rattle.actor.specs.Bodies.{methodsReach};
 use crate::values;
-
-// Where a word's kind stands.
-const PAYLOAD: u32 = 16777216;
-
-// How many words all methods of an actor have.
-const BODIES: usize = 1536;
+use layout::BODIES_SIZE;
+use layout::PAYLOAD;
+use layout::SLOT_UNIT;
 
 // The answer where no entity is.
 const FAIL: usize = 4096;
@@ -89,7 +87,7 @@ fn object(
     words: u32,
     kinds: &[u8; 192],
 ) -> usize
-    requires { ⌜ (at + 8 ≤ length (now w)) × (words ≤ 64) × (length (now bodies) ≤ 1536) × (b ≤ 1536) ⌝ }
+    requires { ⌜ (at + 8 ≤ length (now w)) × (words ≤ 64) × (length (now bodies) ≤ bodiesSize) × (b ≤ bodiesSize) ⌝ }
     ensures { λ r. ⌜ r ≡ objectEnd (now (kinds .entry)) a words (now (w .entry)) at b (methodsReach refs (now (kinds .entry)) a words (now (bodies .entry)) (getD (now (w .entry)) at 0 / 64 % 8) b) ⌝ }
 {
     let e = wellformed::methods(bodies, b, (w[at] / 64 % 8) as usize, kinds, a, words, refs);
@@ -180,10 +178,10 @@ fn made_slot(
     words: u32,
     kinds: &[u8; 192],
 ) -> usize
-    requires { ⌜ (at + 8 ≤ length (now w)) × (words ≤ 64) × (a < 4) × (length (now bodies) ≤ 1536) × (b ≤ 1536) ⌝ }
+    requires { ⌜ (at + 8 ≤ length (now w)) × (words ≤ 64) × (a < 4) × (length (now bodies) ≤ bodiesSize) × (b ≤ bodiesSize) ⌝ }
     ensures { λ r. ⌜ r ≡ madeEnd (now (kinds .entry)) a words (now (w .entry)) (methodsReach true (now (kinds .entry)) a words (now (bodies .entry))) (methodsReach false (now (kinds .entry)) a words (now (bodies .entry))) n at b ⌝ }
 {
-    if w[at] / 512 != n {
+    if w[at] / SLOT_UNIT != n {
         return FAIL;
     }
     match w[at] % 8 {
@@ -207,10 +205,10 @@ fn copied_slot(
     words: u32,
     kinds: &[u8; 192],
 ) -> usize
-    requires { ⌜ (at + 8 ≤ length (now w)) × (words ≤ 64) × (a < 4) × (length (now bodies) ≤ 1536) × (b ≤ 1536) ⌝ }
+    requires { ⌜ (at + 8 ≤ length (now w)) × (words ≤ 64) × (a < 4) × (length (now bodies) ≤ bodiesSize) × (b ≤ bodiesSize) ⌝ }
     ensures { λ r. ⌜ r ≡ copiedEnd (now (kinds .entry)) a words (now (w .entry)) (methodsReach true (now (kinds .entry)) a words (now (bodies .entry))) (methodsReach false (now (kinds .entry)) a words (now (bodies .entry))) n at b ⌝ }
 {
-    if w[at] / 512 != n {
+    if w[at] / SLOT_UNIT != n {
         return FAIL;
     }
     if w[at] % 8 != 2 {
@@ -231,7 +229,7 @@ pub fn made(
     words: u32,
     kinds: &[u8; 192],
 ) -> usize
-    requires { ⌜ (at + 8 * k ≤ length (now w)) × (n + k ≤ 32) × (words ≤ 64) × (a < 4) × (length (now bodies) ≤ 1536) × (b ≤ 1536) ⌝ }
+    requires { ⌜ (at + 8 * k ≤ length (now w)) × (n + k ≤ 32) × (words ≤ 64) × (a < 4) × (length (now bodies) ≤ bodiesSize) × (b ≤ bodiesSize) ⌝ }
     ensures { λ r. ⌜ r ≡ slotsEnd (madeEnd (now (kinds .entry)) a words (now (w .entry)) (methodsReach true (now (kinds .entry)) a words (now (bodies .entry))) (methodsReach false (now (kinds .entry)) a words (now (bodies .entry)))) k n at b ⌝ }
 {
     let mut i = at;
@@ -240,7 +238,7 @@ pub fn made(
     let mut e = b;
     while 0 < left {
         e = made_slot(w, i, m, bodies, e, a, words, kinds);
-        if BODIES < e {
+        if BODIES_SIZE < e {
             return FAIL;
         }
         i += 8;
@@ -262,7 +260,7 @@ pub fn copied(
     words: u32,
     kinds: &[u8; 192],
 ) -> usize
-    requires { ⌜ (at + 8 * k ≤ length (now w)) × (n + k ≤ 32) × (words ≤ 64) × (a < 4) × (length (now bodies) ≤ 1536) × (b ≤ 1536) ⌝ }
+    requires { ⌜ (at + 8 * k ≤ length (now w)) × (n + k ≤ 32) × (words ≤ 64) × (a < 4) × (length (now bodies) ≤ bodiesSize) × (b ≤ bodiesSize) ⌝ }
     ensures { λ r. ⌜ r ≡ slotsEnd (copiedEnd (now (kinds .entry)) a words (now (w .entry)) (methodsReach true (now (kinds .entry)) a words (now (bodies .entry))) (methodsReach false (now (kinds .entry)) a words (now (bodies .entry)))) k n at b ⌝ }
 {
     let mut i = at;
@@ -271,7 +269,7 @@ pub fn copied(
     let mut e = b;
     while 0 < left {
         e = copied_slot(w, i, m, bodies, e, a, words, kinds);
-        if BODIES < e {
+        if BODIES_SIZE < e {
             return FAIL;
         }
         i += 8;

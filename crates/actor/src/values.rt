@@ -1,4 +1,5 @@
 // Zeros, names and values at a position of a part.
+use layout::NAME_LIMIT;
 ghost use mathlib.Core.Path.{_≡_};
 ghost use Prim.Native.Nat.{_+_, _≤_};
 ghost use lib.ListN.{length};
@@ -43,10 +44,10 @@ fn among(x: u32, n: usize, y: u32) -> bool
     if n == 0 {
         return false;
     }
-    if y == x % 128 {
+    if y == x % NAME_LIMIT {
         return true;
     }
-    among(x / 128, n - 1, y)
+    among(x / NAME_LIMIT, n - 1, y)
 }
 
 // Whether `x` is `n` different names.
@@ -57,12 +58,12 @@ pub fn names(x: u32, n: usize, words: u32) -> bool
     if n == 0 {
         return x == 0;
     }
-    let y = x % 128;
+    let y = x % NAME_LIMIT;
     if wellformed::word::is_name(y, words) {
-        if among(x / 128, n - 1, y) {
+        if among(x / NAME_LIMIT, n - 1, y) {
             return false;
         }
-        return names(x / 128, n - 1, words);
+        return names(x / NAME_LIMIT, n - 1, words);
     }
     false
 }

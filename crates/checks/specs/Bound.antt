@@ -11,12 +11,13 @@ use borrow.Author.Tests.{ne-eqb, lt-ltb, le-ltb}
 use lib.Dec.{eqb, ltb}
 use lib.ListN.{length, getD, set}
 use lib.Seq.{set-set, set-getD}
+use Rattle.words.specs.Wide.{wideLimit, wideParamsAt, wideThird}
 use Rattle.checks.specs.Trees.{Forest, empty, tree, words, count, outer, inner, Fits}
 use Rattle.checks.specs.TreeCode.{Here, length-tree, here-word, here-outer, here-inner, here-next, answer, chain, no-tree}
 
 -- a variable is `this` or in scope
 unfoldable pub sees : ℕ → ℕ → List ℕ → Bool
-sees h b L = cond (eqb (h % 256) 6) (cond (eqb (h / 256 % 4096) 0) true (ltb b (getD L (h / 256 % 4096) 0))) true
+sees h b L = cond (eqb (h % 256) 6) (cond (eqb (h / 256 % wideLimit) 0) true (ltb b (getD L (h / 256 % wideLimit) 0))) true
 
 -- the base inside a word
 abbrev pub baseBy : ℕ → ℕ → ℕ → ℕ
@@ -27,14 +28,14 @@ baseOf h b l = baseBy (h % 256) b l
 
 -- the names that a word binds, in 12 bits each
 abbrev pub bindsBy : ℕ → ℕ → ℕ
-bindsBy k p = cond (eqb k 11) p (cond (eqb k 12) p (cond (eqb k 65) p (cond (eqb k 67) p (cond (eqb k 192) (p / 16384) 0))))
+bindsBy k p = cond (eqb k 11) p (cond (eqb k 12) p (cond (eqb k 65) p (cond (eqb k 67) p (cond (eqb k 192) (p / wideParamsAt) 0))))
 
 unfoldable pub binds : ℕ → ℕ
 binds h = bindsBy (h % 256) (h / 256)
 
 -- the three names are bound at the level v
 unfoldable pub bindAll : List ℕ → ℕ → ℕ → List ℕ
-bindAll L n v = set (set (set L (n / 16777216 % 4096) v) (n / 4096 % 4096) v) (n % 4096) v
+bindAll L n v = set (set (set L (n / wideThird % wideLimit) v) (n / wideLimit % wideLimit) v) (n % wideLimit) v
 
 unfoldable pub ok : Forest → List ℕ → ℕ → ℕ → Bool
 ok empty L b l = true
@@ -54,17 +55,17 @@ kept L = refl
 
 -- ---- one word
 module _ (h b : ℕ) (L : List ℕ) where
-  pub sees-this : h % 256 ≡ 6 → h / 256 % 4096 ≡ 0 → true ≡ sees h b L
+  pub sees-this : h % 256 ≡ 6 → h / 256 % wideLimit ≡ 0 → true ≡ sees h b L
   unfolding sees
   sees-this k e = rw (k, e)
 
-  pub sees-bound : h % 256 ≡ 6 → (h / 256 % 4096 ≡ 0 → ⊥) → b < getD L (h / 256 % 4096) 0 → true ≡ sees h b L
+  pub sees-bound : h % 256 ≡ 6 → (h / 256 % wideLimit ≡ 0 → ⊥) → b < getD L (h / 256 % wideLimit) 0 → true ≡ sees h b L
   unfolding sees
-  sees-bound k e l = rw (k, ne-eqb (h / 256 % 4096) 0 e, lt-ltb b (getD L (h / 256 % 4096) 0) l)
+  sees-bound k e l = rw (k, ne-eqb (h / 256 % wideLimit) 0 e, lt-ltb b (getD L (h / 256 % wideLimit) 0) l)
 
-  pub sees-unbound : h % 256 ≡ 6 → (h / 256 % 4096 ≡ 0 → ⊥) → getD L (h / 256 % 4096) 0 ≤ b → false ≡ sees h b L
+  pub sees-unbound : h % 256 ≡ 6 → (h / 256 % wideLimit ≡ 0 → ⊥) → getD L (h / 256 % wideLimit) 0 ≤ b → false ≡ sees h b L
   unfolding sees
-  sees-unbound k e l = rw (k, ne-eqb (h / 256 % 4096) 0 e, le-ltb b (getD L (h / 256 % 4096) 0) l)
+  sees-unbound k e l = rw (k, ne-eqb (h / 256 % wideLimit) 0 e, le-ltb b (getD L (h / 256 % wideLimit) 0) l)
 
   pub sees-other : (h % 256 ≡ 6 → ⊥) → true ≡ sees h b L
   unfolding sees
@@ -96,20 +97,20 @@ pub record Swapped (L : List ℕ) (i v : ℕ) (M : List ℕ) (r : ℕ) : Type 0 
 
 pub record Bound (L : List ℕ) (n v : ℕ) (M : List ℕ) (x y z : ℕ) : Type 0 where
   pub new : M ≡ bindAll L n v
-  pub third : z ≡ getD L (n / 16777216 % 4096) 0
-  pub second : y ≡ getD (set L (n / 16777216 % 4096) v) (n / 4096 % 4096) 0
-  pub first : x ≡ getD (set (set L (n / 16777216 % 4096) v) (n / 4096 % 4096) v) (n % 4096) 0
+  pub third : z ≡ getD L (n / wideThird % wideLimit) 0
+  pub second : y ≡ getD (set L (n / wideThird % wideLimit) v) (n / wideLimit % wideLimit) 0
+  pub first : x ≡ getD (set (set L (n / wideThird % wideLimit) v) (n / wideLimit % wideLimit) v) (n % wideLimit) 0
 
 pub record Unbound (L : List ℕ) (n : ℕ) (M : List ℕ) (x y z : ℕ) : Type 0 where
-  pub new : M ≡ set (set (set L (n % 4096) x) (n / 4096 % 4096) y) (n / 16777216 % 4096) z
+  pub new : M ≡ set (set (set L (n % wideLimit) x) (n / wideLimit % wideLimit) y) (n / wideThird % wideLimit) z
 
 pub swapped : (L : List ℕ) (i v : ℕ) → Swapped L i v (set L i v) (getD L i 0)
 swapped L i v = record { new = refl; old = refl }
 
-pub all-bound : (L : List ℕ) (n v : ℕ) (M N O : List ℕ) (x y z : ℕ) → Swapped L (n / 16777216 % 4096) v M z → Swapped M (n / 4096 % 4096) v N y → Swapped N (n % 4096) v O x → Bound L n v O x y z
+pub all-bound : (L : List ℕ) (n v : ℕ) (M N O : List ℕ) (x y z : ℕ) → Swapped L (n / wideThird % wideLimit) v M z → Swapped M (n / wideLimit % wideLimit) v N y → Swapped N (n % wideLimit) v O x → Bound L n v O x y z
 unfolding bindAll
 all-bound L n v M N O x y z p q r =
-    let e : N ≡ set (set L (n / 16777216 % 4096) v) (n / 4096 % 4096) v = q .new ∙ rw (p .new) in
+    let e : N ≡ set (set L (n / wideThird % wideLimit) v) (n / wideLimit % wideLimit) v = q .new ∙ rw (p .new) in
     record {
       new = r .new ∙ rw e;
       third = p .old;
@@ -117,7 +118,7 @@ all-bound L n v M N O x y z p q r =
       first = r .old ∙ rw e;
     }
 
-pub all-unbound : (L : List ℕ) (n : ℕ) (M N O : List ℕ) (x y z a b c : ℕ) → Swapped L (n % 4096) x M a → Swapped M (n / 4096 % 4096) y N b → Swapped N (n / 16777216 % 4096) z O c → Unbound L n O x y z
+pub all-unbound : (L : List ℕ) (n : ℕ) (M N O : List ℕ) (x y z a b c : ℕ) → Swapped L (n % wideLimit) x M a → Swapped M (n / wideLimit % wideLimit) y N b → Swapped N (n / wideThird % wideLimit) z O c → Unbound L n O x y z
 all-unbound L n M N O x y z a b c p q r = record { new = r .new ∙ rw (q .new, p .new) }
 
 pub put-back : (L : List ℕ) (i v : ℕ) → set (set L i v) i (getD L i 0) ≡ L
@@ -126,11 +127,11 @@ put-back L i v = set-set L i v (getD L i 0) ∙ set-getD L i 0
 back : (L : List ℕ) (n v : ℕ) (M N : List ℕ) (x y z : ℕ) → Bound L n v M x y z → Unbound M n N x y z → N ≡ L
 unfolding bindAll
 back L n v M N x y z p q =
-    let i : ℕ = n % 4096 in
-    let j : ℕ = n / 4096 % 4096 in
-    let k : ℕ = n / 16777216 % 4096 in
+    let i : ℕ = n % wideLimit in
+    let j : ℕ = n / wideLimit % wideLimit in
+    let k : ℕ = n / wideThird % wideLimit in
     q .new
-    ∙ ap (λ K. set (set (set K (n % 4096) x) (n / 4096 % 4096) y) (n / 16777216 % 4096) z) (p .new)
+    ∙ ap (λ K. set (set (set K (n % wideLimit) x) (n / wideLimit % wideLimit) y) (n / wideThird % wideLimit) z) (p .new)
     ∙ rw (p .first, p .second, p .third)
     (ap (λ K. set (set K j (getD (set L k v) j 0)) k (getD L k 0)) (put-back (set (set L k v) j v) i v)
     ∙ ap (λ K. set K k (getD L k 0)) (put-back (set L k v) j v)

@@ -14,7 +14,7 @@ use Rattle.atlite.specs.Scope.{bound}
 use Rattle.atlite.specs.Script.{seq, Src, op, letIn, nil, cons, Line, expression, define, join}
 use Rattle.atlite.specs.Table.{Grammatical, GrammaticalLines}
 use Rattle.layout.specs.Results.{done-same, bind-done}
-use Rattle.words.specs.Wide.{wide, wideSrc, wideLines}
+use Rattle.words.specs.Wide.{wide, wideSrc, wideLines, wideLimit}
 use Rattle.checks.specs.Names.{Name, named}
 use Rattle.checks.specs.Stands.{Stands}
 use Rattle.checks.specs.Trees.{empty, words, count, put, words-put, count-put}
@@ -60,7 +60,7 @@ scan-src s end at l L m e w xs k g h v i =
     ∙ ap (λ b. answer b (at + length (words (put e empty)))) (ok-put e empty L 0 l xs w k g v ∙ ap (λ b. bound xs e && b) (ok-none L 0 l) ∙ and-true (bound xs e))
     ∙ ap (λ v. answer (bound xs e) (at + length v)) (words-put e empty ∙ append-nil (wideSrc e))
 
-name-back : (w x : ℕ) → w ≤ 4000 → Name w x → wide 130 x / 256 % 4096 ≡ x
+name-back : (w x : ℕ) → w ≤ 4000 → Name w x → wide 130 x / 256 % wideLimit ≡ x
 name-back w x k h =
     let a : wide 130 x / 256 ≡ x = omega arith in
     rw a (omega (arith, h .below))
@@ -111,7 +111,7 @@ module _ (s : List ℕ) (end at left l : ℕ) (L : List ℕ) where
         let p = define-src s end at x e ls h in
         rw (stopped (bound xs e) _ m (scan-src s end (at + 1) l L m e w xs k (g .1) p v i) (omega (arith, p .ends)) t)
 
-    pub define-on : (r : Bool) (L₁ L₂ : List ℕ) (o : ℕ) → (m ≡ 8192 → ⊥) → Kept L L₁ → Swapped L₁ (getD s at 0 / 256 % 4096) (l + 1) L₂ o → LinesBound s end m (left - 1) (l + 1) L₂ r → LinesBound s end at left l L r
+    pub define-on : (r : Bool) (L₁ L₂ : List ℕ) (o : ℕ) → (m ≡ 8192 → ⊥) → Kept L L₁ → Swapped L₁ (getD s at 0 / 256 % wideLimit) (l + 1) L₂ o → LinesBound s end m (left - 1) (l + 1) L₂ r → LinesBound s end at left l L r
     unfolding LinesBound boundLines GrammaticalLines Kept
     define-on r L₁ L₂ o t e₁ p j [] w xs k g n h v = absurd (z n)
     define-on r L₁ L₂ o t e₁ p j (expression e ∷ ls) w xs k g n h v = absurd (expression-kind e ls h c)
@@ -119,7 +119,7 @@ module _ (s : List ℕ) (end at left l : ℕ) (L : List ℕ) where
         let a = scan-src s end (at + 1) l L m e w xs k (g .1) (define-src s end at x e ls h) v i in
         let y = went (bound xs e) _ m a t in
         let hx = named w x (g .0) in
-        let q : getD s at 0 / 256 % 4096 ≡ x = ap (λ i. i / 256 % 4096) (define-word s end at x e ls h) ∙ name-back w x k hx in
+        let q : getD s at 0 / 256 % wideLimit ≡ x = ap (λ i. i / 256 % wideLimit) (define-word s end at x e ls h) ∙ name-back w x k hx in
         let e₂ : L₂ ≡ set L x (l + 1) = p .new ∙ rw (q, e₁) in
         rw y (j ls w (x ∷ xs) k (g .2) (omega arith) (define-rest s end at x e ls h m (a ∙ rw y)) (rw e₂ (bound-one L 0 l xs x (l + 1) (omega (arith, hx .below)) (omega arith) (omega arith) v)))
 

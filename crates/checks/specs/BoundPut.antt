@@ -13,9 +13,10 @@ use Rattle.atlite.specs.Term.{Kind, seen}
 use Rattle.atlite.specs.Scope.{bound, boundAll, boundFields, boundMethods}
 use Rattle.atlite.specs.Table.{Grammatical, GrammaticalAll, GrammaticalFields, GrammaticalMethods}
 use Rattle.atlite.specs.Script.{Src, num, null, var, op, letIn, future, fn, when, literal, Srcs, nil, cons, SrcFields, noField, field, SrcMethods, noMethod, method}
+use Rattle.layout.specs.Numbers.{fieldKind}
 use Rattle.layout.specs.Terms.{kindNumber}
 use Rattle.layout.specs.Tables.{srcKind}
-use Rattle.words.specs.Wide.{wide, pair, wideParams, wideMethod}
+use Rattle.words.specs.Wide.{wide, pair, wideParams, wideMethod, wideLimit, wideParamsAt}
 use Rattle.checks.specs.Names.{Name, named, variable, all-named}
 use Rattle.checks.specs.Operators.{Passed, op-passed}
 use Rattle.checks.specs.Trees.{Forest, empty, tree, put, putAll, putFields, putMethods}
@@ -36,11 +37,11 @@ binds-wide : (k p : ℕ) → k < 256 → binds (wide k p) ≡ bindsBy k p
 unfolding binds
 binds-wide k p h = rw (kind-wide k p h, payload-wide k p h)
 
-sees-var : (x b l : ℕ) (L xs : List ℕ) → x < 4096 → Levels L b l xs → sees (wide 6 x) b L ≡ member x (0 ∷ xs)
+sees-var : (x b l : ℕ) (L xs : List ℕ) → x < wideLimit → Levels L b l xs → sees (wide 6 x) b L ≡ member x (0 ∷ xs)
 unfolding sees member if_then_else_
 sees-var x b l L xs h v =
     let i : 6 < 256 = omega arith in
-    let m : x % 4096 ≡ x = omega arith in
+    let m : x % wideLimit ≡ x = omega arith in
     rw (kind-wide 6 x i, payload-wide 6 x i, m) (go x v)
   where
     go : (y : ℕ) → Levels L b l xs → cond (eqb y 0) true (ltb b (getD L y 0)) ≡ (if eqb y 0 then true else member y xs)
@@ -70,7 +71,7 @@ passed : (k p b l : ℕ) (L : List ℕ) (r : Forest) → Passed k → (a : Fores
 passed k p b l L r s a A x =
     first k p b l L r (omega (arith, s .below)) (ne-eqb k 6 (λ e. omega (arith, s .above))) a A (rw (ne-eqb k 16 (s .noIsolate), ne-eqb k 17 (s .noActor)) x)
 
-a-variable : (x b l : ℕ) (L xs : List ℕ) (r : Forest) → x < 4096 → Levels L b l xs → ok (tree (wide 6 x) empty empty r) L b l ≡ member x (0 ∷ xs) && ok r L b l
+a-variable : (x b l : ℕ) (L xs : List ℕ) (r : Forest) → x < wideLimit → Levels L b l xs → ok (tree (wide 6 x) empty empty r) L b l ≡ member x (0 ∷ xs) && ok r L b l
 unfolding ok
 a-variable x b l L xs r h v = rw (sees-var x b l L xs h v)
 
@@ -83,13 +84,13 @@ module _ (w b l : ℕ) (L xs : List ℕ) (k : w ≤ 4000) (h : Levels L b l xs) 
   bind-one : (x : ℕ) → Name w x → Levels (bindAll L x (l + 1)) b (l + 1) (x ∷ xs)
   unfolding wideParams
   bind-one x n =
-      let e : x + 4096 * 0 ≡ x = omega arith in
+      let e : x + wideLimit * 0 ≡ x = omega arith in
       subst (λ i. Levels (bindAll L i (l + 1)) b (l + 1) (x ∷ xs)) e (bound-all w (x ∷ []) L b l xs k (omega arith) (n, tt) h)
 
   bind-two : (x y : ℕ) → Name w x → Name w y → Levels (bindAll L (pair x y) (l + 1)) b (l + 1) (x ∷ y ∷ xs)
   unfolding wideParams
   bind-two x y n m =
-      let e : y + 4096 * 0 ≡ y = omega arith in
+      let e : y + wideLimit * 0 ≡ y = omega arith in
       subst (λ i. Levels (bindAll L (pair x i) (l + 1)) b (l + 1) (x ∷ y ∷ xs)) e (bound-all w (x ∷ y ∷ []) L b l xs k (omega arith) (n, (m, tt)) h)
 
   bind-none : Levels (bindAll L 0 (l + 1)) b (l + 1) xs
@@ -113,7 +114,7 @@ a-literal Kind.actor p b l L a c r A C x y = both 17 p b l L r (omega arith) ref
 a-method : (w m : ℕ) (ys : List ℕ) (b l : ℕ) (L : List ℕ) (c r : Forest) (C : Bool) → w ≤ 4000 → Name w m → length ys ≤ 3 → ok c (bindAll L (wideParams ys) (l + 1)) b (l + 1) ≡ C → ok (tree (wideMethod m ys) empty c r) L b l ≡ C && ok r L b l
 unfolding wideMethod
 a-method w m ys b l L c r C k n i y =
-    let q : pair m (length ys + 4 * wideParams ys) / 16384 ≡ wideParams ys = omega (arith, n .below) in
+    let q : pair m (length ys + 4 * wideParams ys) / wideParamsAt ≡ wideParams ys = omega (arith, n .below) in
     second 192 (pair m (length ys + 4 * wideParams ys)) b l L r (omega arith) refl c C (rw q y)
 
 mutual
@@ -146,7 +147,7 @@ mutual
   ok-fields : (fs : SrcFields) (L : List ℕ) (b l : ℕ) (xs : List ℕ) (w : ℕ) → w ≤ 4000 → GrammaticalFields w fs → Levels L b l xs → ok (putFields fs empty) L b l ≡ boundFields xs fs
   ok-fields noField L b l xs w k g h = ok-none L b l
   ok-fields (field f e fs) L b l xs w k g h =
-      first 128 f b l L (putFields fs empty) (omega arith) refl _ _ (one L b l _ (bound xs e) (ok-put e empty L b l xs w k (g .1) h)) ∙ ap (λ t. bound xs e && t) (ok-fields fs L b l xs w k (g .2) h)
+      first fieldKind f b l L (putFields fs empty) (omega arith) refl _ _ (one L b l _ (bound xs e) (ok-put e empty L b l xs w k (g .1) h)) ∙ ap (λ t. bound xs e && t) (ok-fields fs L b l xs w k (g .2) h)
 
   ok-methods : (ms : SrcMethods) (L : List ℕ) (b l : ℕ) (xs : List ℕ) (w : ℕ) → w ≤ 4000 → GrammaticalMethods w ms → Levels L b l xs → ok (putMethods ms empty) L b l ≡ boundMethods xs ms
   ok-methods noMethod L b l xs w k g h = ok-none L b l

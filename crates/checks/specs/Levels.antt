@@ -11,7 +11,7 @@ use lib.ListN.{length, getD, set, replicate, length-set, length-replicate}
 use lib.Seq.{getD-set-same, getD-set-other}
 use Rattle.atlite.specs.Base.{if_then_else_, member}
 use Rattle.layout.specs.PackLaws.{Each}
-use Rattle.words.specs.Wide.{pair, wideParams}
+use Rattle.words.specs.Wide.{pair, wideParams, wideLimit, wideThird}
 use Rattle.checks.specs.Names.{Name}
 use Rattle.checks.specs.Bound.{bindAll}
 
@@ -42,7 +42,7 @@ unfolding member
 hidden L b l xs h = record { long = h .long; under = omega arith; low = h .low; right = λ x p. le-ltb l (getD L x 0) (h .low x) }
 
 -- ---- one name
-pub bound-one : (L : List ℕ) (b l : ℕ) (xs : List ℕ) (y v : ℕ) → y < 4096 → b < v → l ≤ v → Levels L b l xs → Levels (set L y v) b v (y ∷ xs)
+pub bound-one : (L : List ℕ) (b l : ℕ) (xs : List ℕ) (y v : ℕ) → y < wideLimit → b < v → l ≤ v → Levels L b l xs → Levels (set L y v) b v (y ∷ xs)
 unfolding member if_then_else_
 bound-one L b l xs y v hy hb hl h = record {
   long = length-set L y v ∙ h .long;
@@ -67,15 +67,15 @@ same-scope : (L : List ℕ) (b l : ℕ) (xs ys : List ℕ) → Levels L b l xs �
 same-scope L b l xs ys h s = record { long = h .long; under = h .under; low = h .low; right = λ x p. h .right x p ∙ s x p }
 
 -- ---- three names
-module _ (L : List ℕ) (b l : ℕ) (xs : List ℕ) (x y z : ℕ) (hx : x < 4096) (hy : y < 4096) (hz : z < 4096) (h : Levels L b l xs) where
+module _ (L : List ℕ) (b l : ℕ) (xs : List ℕ) (x y z : ℕ) (hx : x < wideLimit) (hy : y < wideLimit) (hz : z < wideLimit) (h : Levels L b l xs) where
   three : Levels (bindAll L (pair x (pair y z)) (l + 1)) b (l + 1) (x ∷ y ∷ z ∷ xs)
   unfolding bindAll
   three =
-      let p : pair x (pair y z) % 4096 ≡ x = omega arith in
-      let q : pair x (pair y z) / 4096 ≡ pair y z = omega arith in
-      let r : pair y z % 4096 ≡ y = omega arith in
-      let s : pair x (pair y z) / 16777216 ≡ z = omega arith in
-      let t : z % 4096 ≡ z = omega arith in
+      let p : pair x (pair y z) % wideLimit ≡ x = omega arith in
+      let q : pair x (pair y z) / wideLimit ≡ pair y z = omega arith in
+      let r : pair y z % wideLimit ≡ y = omega arith in
+      let s : pair x (pair y z) / wideThird ≡ z = omega arith in
+      let t : z % wideLimit ≡ z = omega arith in
       rw (p, q, r, s, t)
       (bound-one (set (set L z (l + 1)) y (l + 1)) b (l + 1) (y ∷ z ∷ xs) x (l + 1) hx (omega (arith, h .under)) (omega arith)
       (bound-one (set L z (l + 1)) b (l + 1) (z ∷ xs) y (l + 1) hy (omega (arith, h .under)) (omega arith)
@@ -91,6 +91,6 @@ bound-all w (x ∷ []) L b l xs k n a h =
 bound-all w (x ∷ y ∷ []) L b l xs k n a h =
     same-scope _ b (l + 1) (x ∷ y ∷ 0 ∷ xs) (x ∷ y ∷ xs) (three L b l xs x y 0 (omega (arith, a .0 .below)) (omega (arith, a .1 .0 .below)) (omega arith) h) (λ u p. rw (ne-eqb u 0 (λ e. omega arith)))
 bound-all w (x ∷ y ∷ z ∷ []) L b l xs k n a h =
-    let last : z + 4096 * 0 ≡ z = omega arith in
+    let last : z + wideLimit * 0 ≡ z = omega arith in
     rw last (three L b l xs x y z (omega (arith, a .0 .below)) (omega (arith, a .1 .0 .below)) (omega (arith, a .1 .1 .0 .below)) h)
 bound-all w (x ∷ y ∷ z ∷ u ∷ ys) L b l xs k n a h = absurd (omega arith)

@@ -10,6 +10,7 @@ use lib.Dec.{eqb}
 use lib.ListN.{length, getD, drop, take-append-drop}
 use Rattle.atlite.specs.Term.{Kind}
 use Rattle.atlite.specs.Script.{Src, num, null, var, op, letIn, future, fn, when, literal, Line, expression, define}
+use Rattle.layout.specs.Numbers.{fieldKind}
 use Rattle.layout.specs.Pack.{flat}
 use Rattle.layout.specs.Terms.{kindNumber}
 use Rattle.layout.specs.Tables.{srcKind}
@@ -24,9 +25,9 @@ pub record Headed (v : List ℕ) : Type 0 where
   pub word : ℕ
   pub others : List ℕ
   pub is : v ≡ word ∷ others
-  pub low : word % 256 < 128
+  pub low : word % 256 < fieldKind
 
-headed : (k p : ℕ) (v : List ℕ) → k < 128 → Headed (wide k p ∷ v)
+headed : (k p : ℕ) (v : List ℕ) → k < fieldKind → Headed (wide k p ∷ v)
 headed k p v h = record { word = wide k p; others = v; is = refl; low = omega arith }
 
 head-literal : (k : Kind) (p : ℕ) (v : List ℕ) → Headed (wide (kindNumber k) p ∷ v)

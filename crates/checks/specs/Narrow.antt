@@ -14,37 +14,38 @@ use Rattle.atlite.specs.Valid.{isName, shapely}
 use Rattle.reading.specs.Items.{call-few, send-few}
 use Rattle.atlite.specs.Table.{Grammatical, GrammaticalAll, GrammaticalFields, GrammaticalMethods, GrammaticalLines, writable}
 use Rattle.atlite.specs.Script.{SrcOp, ask, resolve, seq, Src, num, null, var, op, letIn, future, fn, when, literal, Srcs, nil, cons, SrcFields, noField, field, SrcMethods, noMethod, method, Line, expression, define, countSrcs}
+use Rattle.layout.specs.Numbers.{payload, fieldKind, nameLimit, noName, taggedLimit}
 use Rattle.layout.specs.Pack.{node, flat, places}
 use Rattle.layout.specs.PackLaws.{Each}
 use Rattle.layout.specs.Kinds.{Operating, SrcRow, isBare, isField, isCall, isSend, src-row, op-kind}
 use Rattle.layout.specs.KindLaws.{Unasked, bare-unasked, field-unasked}
 use Rattle.layout.specs.Terms.{opKind, kindNumber, tagged, asked, methodHeader}
 use Rattle.layout.specs.Tables.{srcKind, srcPayload, encodeSrc, encodeSrcs, encodeFields, encodeSrcMethods, encodeLine}
-use Rattle.words.specs.Wide.{wide, pair, wideParams, wideMethod, widePayload, wideSrc, wideSrcs, wideFields, wideMethods, wideLine, wideLines}
+use Rattle.words.specs.Wide.{wide, pair, wideParams, wideMethod, widePayload, wideSrc, wideSrcs, wideFields, wideMethods, wideLine, wideLines, wideLimit, wideParamsAt, wideThird}
 use Rattle.checks.specs.Names.{Name, named, variable, all-named}
 
 unfoldable pub tableWord : ℕ → ℕ → ℕ
-tableWord k p = p % 16777216 + 16777216 * k
+tableWord k p = p % payload + payload * k
 
 -- an empty place of a table's method is 127, and 0 here
 unfoldable pub placed : ℕ → ℕ
-placed x = cond (eqb x 0) 127 x
+placed x = cond (eqb x 0) noName x
 
 unfoldable pub methodWord : ℕ → ℕ
 methodWord p =
-    (p % 4096 + 128 * (p / 4096 % 4 + 4 * (placed (p / 16384 % 4096) + 128 * (placed (p / 16384 / 4096 % 4096) + 128 * placed (p / 16384 / 16777216 % 4096))))) % 1073741824
-    + 3221225472
+    (p % wideLimit + nameLimit * (p / wideLimit % 4 + 4 * (placed (p / wideParamsAt % wideLimit) + nameLimit * (placed (p / wideParamsAt / wideLimit % wideLimit) + nameLimit * placed (p / wideParamsAt / wideThird % wideLimit))))) % (64 * payload)
+    + 192 * payload
 
 -- two digits of 12 bits, the second moved to where the table has it
 unfoldable pub pairWord : ℕ → ℕ → ℕ → ℕ
-pairWord m k p = tableWord k (p % 4096 + m * (p / 4096 % 4096))
+pairWord m k p = tableWord k (p % wideLimit + m * (p / wideLimit % wideLimit))
 
 unfoldable pub narrowBy : ℕ → ℕ → ℕ
 narrowBy k p =
-    cond (eqb k 12) (pairWord 128 k p)
-    (cond (eqb k 13) (pairWord 512 k p)
-    (cond (eqb k 14) (pairWord 512 k p)
-    (cond (eqb k 64) (pairWord 512 k p)
+    cond (eqb k 12) (pairWord nameLimit k p)
+    (cond (eqb k 13) (pairWord taggedLimit k p)
+    (cond (eqb k 14) (pairWord taggedLimit k p)
+    (cond (eqb k 64) (pairWord taggedLimit k p)
     (cond (eqb k 192) (methodWord p)
     (tableWord k p)))))
 
@@ -63,28 +64,28 @@ of-wide k p h =
     let b : (k + 256 * p) / 256 ≡ p = omega arith in
     rw (a, b)
 
-plain-word : (k p : ℕ) → p < 16777216 → tableWord k p ≡ node k p
+plain-word : (k p : ℕ) → p < payload → tableWord k p ≡ node k p
 unfolding tableWord
 plain-word k p h = omega arith
 
-pair-word : (m k x y : ℕ) → x < 4096 → y < 4096 → x + m * y < 16777216 → pairWord m k (pair x y) ≡ node k (x + m * y)
+pair-word : (m k x y : ℕ) → x < wideLimit → y < wideLimit → x + m * y < payload → pairWord m k (pair x y) ≡ node k (x + m * y)
 unfolding pairWord
 pair-word m k x y h l s =
-    let a : (x + 4096 * y) % 4096 ≡ x = omega arith in
-    let b : (x + 4096 * y) / 4096 ≡ y = omega arith in
-    let d : y % 4096 ≡ y = omega arith in
+    let a : (x + wideLimit * y) % wideLimit ≡ x = omega arith in
+    let b : (x + wideLimit * y) / wideLimit ≡ y = omega arith in
+    let d : y % wideLimit ≡ y = omega arith in
     rw (a, b, d) (plain-word k (x + m * y) s)
 
 -- a kind whose payload stands as it is
-kept : (k p : ℕ) → k < 256 → p < 16777216 → narrowBy k p ≡ tableWord k p → narrow (wide k p) ≡ node k p
+kept : (k p : ℕ) → k < 256 → p < payload → narrowBy k p ≡ tableWord k p → narrow (wide k p) ≡ node k p
 kept k p l h e = of-wide k p l ∙ e ∙ plain-word k p h
 
 -- a message's name and count
-sent : (k m n : ℕ) → k < 256 → m < 4096 → n ≤ 3 → narrowBy k (pair m n) ≡ pairWord 512 k (pair m n) → narrow (wide k (pair m n)) ≡ node k (asked (plain m) n)
+sent : (k m n : ℕ) → k < 256 → m < wideLimit → n ≤ 3 → narrowBy k (pair m n) ≡ pairWord taggedLimit k (pair m n) → narrow (wide k (pair m n)) ≡ node k (asked (plain m) n)
 unfolding tagged
-sent k m n l h s e = of-wide k (pair m n) l ∙ e ∙ pair-word 512 k m n h (omega arith) (omega arith) ∙ omega arith
+sent k m n l h s e = of-wide k (pair m n) l ∙ e ∙ pair-word taggedLimit k m n h (omega arith) (omega arith) ∙ omega arith
 
-literal-kept : (k : Kind) (p : ℕ) → p < 16777216 → narrow (wide (kindNumber k) p) ≡ node (kindNumber k) p
+literal-kept : (k : Kind) (p : ℕ) → p < payload → narrow (wide (kindNumber k) p) ≡ node (kindNumber k) p
 unfolding kindNumber narrowBy
 literal-kept Kind.object p h = kept 15 p (omega arith) h refl
 literal-kept Kind.isolate p h = kept 16 p (omega arith) h refl
@@ -95,22 +96,22 @@ placed-name : (w x : ℕ) → Name w x → placed x ≡ x
 unfolding placed
 placed-name w x h = rw (ne-eqb x 0 (λ e. omega (arith, h .above)))
 
-module _ (m n x y z : ℕ) (hm : m < 4096) (hn : n < 4) (hx : x < 4096) (hy : y < 4096) (hz : z < 4096) where
-  abbrev payload : ℕ
-  payload = pair m (n + 4 * pair x (pair y z))
+module _ (m n x y z : ℕ) (hm : m < wideLimit) (hn : n < 4) (hx : x < wideLimit) (hy : y < wideLimit) (hz : z < wideLimit) where
+  abbrev digits : ℕ
+  digits = pair m (n + 4 * pair x (pair y z))
 
-  method-digits : methodWord payload ≡ (m + 128 * (n + 4 * (placed x + 128 * (placed y + 128 * placed z)))) % 1073741824 + 3221225472
+  method-digits : methodWord digits ≡ (m + nameLimit * (n + 4 * (placed x + nameLimit * (placed y + nameLimit * placed z)))) % (64 * payload) + 192 * payload
   unfolding methodWord
   method-digits =
-      let a : payload % 4096 ≡ m = omega arith in
-      let b : payload / 4096 ≡ n + 4 * pair x (pair y z) = omega arith in
+      let a : digits % wideLimit ≡ m = omega arith in
+      let b : digits / wideLimit ≡ n + 4 * pair x (pair y z) = omega arith in
       let b′ : (n + 4 * pair x (pair y z)) % 4 ≡ n = omega arith in
-      let c : payload / 16384 ≡ pair x (pair y z) = omega arith in
-      let d : pair x (pair y z) % 4096 ≡ x = omega arith in
-      let e : pair x (pair y z) / 4096 ≡ pair y z = omega arith in
-      let e′ : pair y z % 4096 ≡ y = omega arith in
-      let f : pair x (pair y z) / 16777216 ≡ z = omega arith in
-      let f′ : z % 4096 ≡ z = omega arith in
+      let c : digits / wideParamsAt ≡ pair x (pair y z) = omega arith in
+      let d : pair x (pair y z) % wideLimit ≡ x = omega arith in
+      let e : pair x (pair y z) / wideLimit ≡ pair y z = omega arith in
+      let e′ : pair y z % wideLimit ≡ y = omega arith in
+      let f : pair x (pair y z) / wideThird ≡ z = omega arith in
+      let f′ : z % wideLimit ≡ z = omega arith in
       rw (a, b, b′, c, d, e, e′, f, f′)
 
 method-word : (w m : ℕ) (xs : List ℕ) → w ≤ 64 → Name w m → length xs ≤ 3 → Each (Name w) xs → narrow (wideMethod m xs) ≡ methodHeader m xs
@@ -125,7 +126,7 @@ method-word w m (x ∷ y ∷ []) l hm h a =
     ∙ method-digits m 2 x y 0 (omega (arith, hm .below)) (omega arith) (omega (arith, a .0 .below)) (omega (arith, a .1 .0 .below)) (omega arith)
     ∙ rw (placed-name w x (a .0), placed-name w y (a .1 .0)) (omega (arith, hm .below, a .0 .below, a .1 .0 .below))
 method-word w m (x ∷ y ∷ z ∷ []) l hm h a =
-    let last : z + 4096 * 0 ≡ z = omega arith in
+    let last : z + wideLimit * 0 ≡ z = omega arith in
     of-wide 192 _ (omega arith)
     ∙ ap (λ q. methodWord (pair m (3 + 4 * pair x (pair y q)))) last
     ∙ method-digits m 3 x y z (omega (arith, hm .below)) (omega arith) (omega (arith, a .0 .below)) (omega (arith, a .1 .0 .below)) (omega (arith, a .1 .1 .0 .below))
@@ -154,7 +155,7 @@ one-word h h′ v v′ e p = rw (e, p)
 two-words : (h h′ : ℕ) (v v′ u u′ : List ℕ) → narrow h ≡ h′ → narrowAll v ≡ v′ → narrowAll u ≡ u′ → narrowAll (h ∷ (v ++ u)) ≡ h′ ∷ (v′ ++ u′)
 two-words h h′ v v′ u u′ e p q = one-word h h′ (v ++ u) (v′ ++ u′) e (narrow-append v u ∙ rw (p, q))
 
-small : (w x : ℕ) → w ≤ 64 → Name w x → x < 16777216
+small : (w x : ℕ) → w ≤ 64 → Name w x → x < payload
 small w x l h = omega (arith, h .below)
 
 -- the payload of an operator's word stands as it is, but for a message's
@@ -205,7 +206,7 @@ mutual
   narrow-src (future x y e) w l g =
       let hx = named w x (g .0) .below in
       let hy = named w y (g .1) .below in
-      one-word _ _ _ _ (of-wide 12 (pair x y) (omega arith) ∙ pair-word 128 12 x y (omega arith) (omega arith) (omega arith)) (narrow-src e w l (g .2))
+      one-word _ _ _ _ (of-wide 12 (pair x y) (omega arith) ∙ pair-word nameLimit 12 x y (omega arith) (omega arith) (omega arith)) (narrow-src e w l (g .2))
   narrow-src (literal k fs ms) w l g = two-words _ _ _ _ _ _ (literal-kept k _ (omega (arith, g .0, g .2))) (narrow-fields fs w l (g .1)) (narrow-methods ms w l (g .3))
   narrow-src (fn x e) w l g = one-word _ _ _ _ (kept 65 x (omega arith) (small w x l (named w x (g .0))) refl) (narrow-src e w l (g .1))
   narrow-src (when e x d) w l g = two-words _ _ _ _ _ _ (kept 67 x (omega arith) (small w x l (named w x (g .1))) refl) (narrow-src e w l (g .0)) (narrow-src d w l (g .2))
@@ -216,7 +217,7 @@ mutual
 
   narrow-fields : (fs : SrcFields) (w : ℕ) → w ≤ 64 → GrammaticalFields w fs → narrowAll (wideFields fs) ≡ encodeFields fs
   narrow-fields noField w l g = narrow-nil
-  narrow-fields (field f e fs) w l g = two-words _ _ _ _ _ _ (kept 128 f (omega arith) (small w f l (named w f (g .0))) refl) (narrow-src e w l (g .1)) (narrow-fields fs w l (g .2))
+  narrow-fields (field f e fs) w l g = two-words _ _ _ _ _ _ (kept fieldKind f (omega arith) (small w f l (named w f (g .0))) refl) (narrow-src e w l (g .1)) (narrow-fields fs w l (g .2))
 
   narrow-methods : (ms : SrcMethods) (w : ℕ) → w ≤ 64 → GrammaticalMethods w ms → narrowAll (wideMethods ms) ≡ encodeSrcMethods ms
   narrow-methods noMethod w l g = narrow-nil

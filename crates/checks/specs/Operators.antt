@@ -13,17 +13,18 @@ use Rattle.atlite.specs.Script.{SrcOp, kept, ask, resolve, seq}
 use Rattle.atlite.specs.Table.{writable}
 use Rattle.atlite.specs.Valid.{isName, shapely}
 use Rattle.reading.specs.Items.{call-few, send-few}
+use Rattle.layout.specs.Numbers.{fieldKind}
 use Rattle.layout.specs.Terms.{opKind}
 use Rattle.layout.specs.Tables.{srcKind}
 use Rattle.layout.specs.Kinds.{Operating, SrcRow, isBare, isField, isCall, isSend, src-row, op-kind, rowIn}
 use Rattle.layout.specs.KindLaws.{Unasked, bare-row, bare-unasked, field-row, field-unasked}
-use Rattle.words.specs.Wide.{pair, widePayload}
+use Rattle.words.specs.Wide.{pair, widePayload, wideLimit}
 use Rattle.checks.specs.Names.{named}
 use Rattle.checks.specs.Trees.{outerBy}
 
 pub record Passed (k : ℕ) : Type 0 where
   pub above : 6 < k
-  pub below : k < 128
+  pub below : k < fieldKind
   pub noLet : k ≢ 11
   pub noFuture : k ≢ 12
   pub noObject : k ≢ 15
@@ -51,11 +52,11 @@ op-passed (ask m) = omega arith
 op-passed resolve = omega arith
 op-passed seq = omega arith
 
-sent : (w m n : ℕ) → w ≤ 4000 → (isName w m ≡ true) × (0 < suc n) × (suc n ≤ 4) → suc n ≡ 1 + pair m n / 4096 % 4
+sent : (w m n : ℕ) → w ≤ 4000 → (isName w m ≡ true) × (0 < suc n) × (suc n ≤ 4) → suc n ≡ 1 + pair m n / wideLimit % 4
 sent w m n l h =
     let b = named w m (h .0) .below in
     let f = h .2 in
-    let a : pair m n / 4096 ≡ n = omega arith in
+    let a : pair m n / wideLimit ≡ n = omega arith in
     rw a (omega arith)
 
 -- of a kind in the table
@@ -73,7 +74,7 @@ outer-operands k p h u =
       ne-eqb k 66 (λ e. omega (arith, h .1, e)),
       ne-eqb k 67 (λ e. omega (arith, h .1, e)),
       ne-eqb k 68 (λ e. omega (arith, h .1, e)),
-      ne-eqb k 128 (λ e. omega (arith, h .1, e)),
+      ne-eqb k fieldKind (λ e. omega (arith, h .1, e)),
     )
 
 kept-outer : (w : ℕ) → w ≤ 4000 → (o : Op ℕ) → SrcRow o → (n : ℕ) → writable w (kept o) n ≡ true → n ≡ outerBy (srcKind (kept o)) (widePayload (kept o) n)

@@ -9,12 +9,14 @@ use borrow.Author.Needs.{needs}
 use borrow.Author.Tests.{eq-eqb, ne-eqb, lt-ltb, le-ltb}
 use lib.Dec.{eqb, ltb}
 use lib.ListN.{length, getD}
+use Rattle.layout.specs.Numbers.{fieldKind}
+use Rattle.words.specs.Wide.{wideLimit, wideParamsAt, wideThird}
 use Rattle.checks.specs.Trees.{Forest, empty, tree, words, count, outer, inner, Fits}
 use Rattle.checks.specs.TreeCode.{Here, length-tree, here-word, here-outer, here-inner, here-next, answer, chain, no-tree}
 
 -- none of the names in n is x
 unfoldable pub fresh : ℕ → ℕ → Bool
-fresh n x = cond (eqb x (n % 4096)) false (cond (eqb x (n / 4096 % 4096)) false (cond (eqb x (n / 16777216 % 4096)) false true))
+fresh n x = cond (eqb x (n % wideLimit)) false (cond (eqb x (n / wideLimit % wideLimit)) false (cond (eqb x (n / wideThird % wideLimit)) false true))
 
 -- of three places, filled from the first on and 0 where empty, no two are the same name
 unfoldable pub apart : ℕ → ℕ → ℕ → Bool
@@ -23,9 +25,9 @@ apart x y z = cond (eqb y 0) true (cond (eqb x y) false (cond (eqb z 0) true (co
 -- the names that the word itself lists, and its own name in the list where it stands
 abbrev pub ownBy : ℕ → ℕ → ℕ → Bool
 ownBy k p n =
-    cond (eqb k 12) (not (eqb (p % 4096) (p / 4096 % 4096)))
-    (cond (eqb k 128) (fresh n (p % 4096))
-    (cond (eqb k 192) (fresh n (p % 4096) && apart (p / 16384 % 4096) (p / 16384 / 4096 % 4096) (p / 16384 / 16777216 % 4096))
+    cond (eqb k 12) (not (eqb (p % wideLimit) (p / wideLimit % wideLimit)))
+    (cond (eqb k fieldKind) (fresh n (p % wideLimit))
+    (cond (eqb k 192) (fresh n (p % wideLimit) && apart (p / wideParamsAt % wideLimit) (p / wideParamsAt / wideLimit % wideLimit) (p / wideParamsAt / wideThird % wideLimit))
     true))
 
 unfoldable pub own : ℕ → ℕ → Bool
@@ -33,7 +35,7 @@ own h n = ownBy (h % 256) (h / 256) n
 
 -- the names, with that of a header
 unfoldable pub noted : ℕ → ℕ → ℕ
-noted h n = cond (ltb (h % 256) 128) n (h / 256 % 4096 + 4096 * (n % 68719476736))
+noted h n = cond (ltb (h % 256) fieldKind) n (h / 256 % wideLimit + wideLimit * (n % 68719476736))
 
 unfoldable pub sing : Forest → ℕ → Bool
 sing empty n = true
@@ -45,23 +47,23 @@ Walked s end at n names r = (f : Forest) → Fits f → count f ≡ n → Here s
 
 -- ---- one word
 module _ (n x : ℕ) where
-  pub fresh-first : n % 4096 ≡ x → false ≡ fresh n x
+  pub fresh-first : n % wideLimit ≡ x → false ≡ fresh n x
   unfolding fresh
-  fresh-first e = rw (eq-eqb x (n % 4096) (sym e))
+  fresh-first e = rw (eq-eqb x (n % wideLimit) (sym e))
 
-  module _ (a : n % 4096 ≡ x → ⊥) where
-    pub fresh-second : n / 4096 % 4096 ≡ x → false ≡ fresh n x
+  module _ (a : n % wideLimit ≡ x → ⊥) where
+    pub fresh-second : n / wideLimit % wideLimit ≡ x → false ≡ fresh n x
     unfolding fresh
-    fresh-second e = rw (ne-eqb x (n % 4096) (λ i. a (sym i)), eq-eqb x (n / 4096 % 4096) (sym e))
+    fresh-second e = rw (ne-eqb x (n % wideLimit) (λ i. a (sym i)), eq-eqb x (n / wideLimit % wideLimit) (sym e))
 
-    module _ (b : n / 4096 % 4096 ≡ x → ⊥) where
-      pub fresh-third : n / 16777216 % 4096 ≡ x → false ≡ fresh n x
+    module _ (b : n / wideLimit % wideLimit ≡ x → ⊥) where
+      pub fresh-third : n / wideThird % wideLimit ≡ x → false ≡ fresh n x
       unfolding fresh
-      fresh-third e = rw (ne-eqb x (n % 4096) (λ i. a (sym i)), ne-eqb x (n / 4096 % 4096) (λ i. b (sym i)), eq-eqb x (n / 16777216 % 4096) (sym e))
+      fresh-third e = rw (ne-eqb x (n % wideLimit) (λ i. a (sym i)), ne-eqb x (n / wideLimit % wideLimit) (λ i. b (sym i)), eq-eqb x (n / wideThird % wideLimit) (sym e))
 
-      pub fresh-yes : (n / 16777216 % 4096 ≡ x → ⊥) → true ≡ fresh n x
+      pub fresh-yes : (n / wideThird % wideLimit ≡ x → ⊥) → true ≡ fresh n x
       unfolding fresh
-      fresh-yes c = rw (ne-eqb x (n % 4096) (λ i. a (sym i)), ne-eqb x (n / 4096 % 4096) (λ i. b (sym i)), ne-eqb x (n / 16777216 % 4096) (λ i. c (sym i)))
+      fresh-yes c = rw (ne-eqb x (n % wideLimit) (λ i. a (sym i)), ne-eqb x (n / wideLimit % wideLimit) (λ i. b (sym i)), ne-eqb x (n / wideThird % wideLimit) (λ i. c (sym i)))
 
 module _ (x y z : ℕ) where
   pub apart-one : y ≡ 0 → true ≡ apart x y z
@@ -92,38 +94,38 @@ module _ (x y z : ℕ) where
         apart-three d e = rw (ne-eqb y 0 a, ne-eqb x y b, ne-eqb z 0 c, ne-eqb x z d, ne-eqb y z e)
 
 module _ (h n : ℕ) where
-  pub own-same : h % 256 ≡ 12 → h / 256 % 4096 ≡ h / 256 / 4096 % 4096 → false ≡ own h n
+  pub own-same : h % 256 ≡ 12 → h / 256 % wideLimit ≡ h / 256 / wideLimit % wideLimit → false ≡ own h n
   unfolding own
-  own-same k e = rw (k, eq-eqb (h / 256 % 4096) (h / 256 / 4096 % 4096) e)
+  own-same k e = rw (k, eq-eqb (h / 256 % wideLimit) (h / 256 / wideLimit % wideLimit) e)
 
-  pub own-other : h % 256 ≡ 12 → (h / 256 % 4096 ≡ h / 256 / 4096 % 4096 → ⊥) → true ≡ own h n
+  pub own-other : h % 256 ≡ 12 → (h / 256 % wideLimit ≡ h / 256 / wideLimit % wideLimit → ⊥) → true ≡ own h n
   unfolding own
-  own-other k e = rw (k, ne-eqb (h / 256 % 4096) (h / 256 / 4096 % 4096) e)
+  own-other k e = rw (k, ne-eqb (h / 256 % wideLimit) (h / 256 / wideLimit % wideLimit) e)
 
-  pub own-field : (r : Bool) → h % 256 ≡ 128 → r ≡ fresh n (h / 256 % 4096) → r ≡ own h n
+  pub own-field : (r : Bool) → h % 256 ≡ fieldKind → r ≡ fresh n (h / 256 % wideLimit) → r ≡ own h n
   unfolding own
   own-field r k e = e ∙ rw k
 
-  pub own-method : (a r : Bool) → h % 256 ≡ 192 → a ≡ fresh n (h / 256 % 4096) → a ≡ true
-      → r ≡ apart (h / 256 / 16384 % 4096) (h / 256 / 16384 / 4096 % 4096) (h / 256 / 16384 / 16777216 % 4096) → r ≡ own h n
+  pub own-method : (a r : Bool) → h % 256 ≡ 192 → a ≡ fresh n (h / 256 % wideLimit) → a ≡ true
+      → r ≡ apart (h / 256 / wideParamsAt % wideLimit) (h / 256 / wideParamsAt / wideLimit % wideLimit) (h / 256 / wideParamsAt / wideThird % wideLimit) → r ≡ own h n
   unfolding own
   own-method a r k e t i = i ∙ rw (k, sym e ∙ t)
 
-  pub own-taken : (a : Bool) → h % 256 ≡ 192 → a ≡ fresh n (h / 256 % 4096) → a ≡ false → false ≡ own h n
+  pub own-taken : (a : Bool) → h % 256 ≡ 192 → a ≡ fresh n (h / 256 % wideLimit) → a ≡ false → false ≡ own h n
   unfolding own
   own-taken a k e t = rw (k, sym e ∙ t)
 
-  pub own-none : (h % 256 ≡ 12 → ⊥) → (h % 256 ≡ 128 → ⊥) → (h % 256 ≡ 192 → ⊥) → true ≡ own h n
+  pub own-none : (h % 256 ≡ 12 → ⊥) → (h % 256 ≡ fieldKind → ⊥) → (h % 256 ≡ 192 → ⊥) → true ≡ own h n
   unfolding own
-  own-none a b c = rw (ne-eqb (h % 256) 12 a, ne-eqb (h % 256) 128 b, ne-eqb (h % 256) 192 c)
+  own-none a b c = rw (ne-eqb (h % 256) 12 a, ne-eqb (h % 256) fieldKind b, ne-eqb (h % 256) 192 c)
 
-  pub noted-node : h % 256 < 128 → n ≡ noted h n
+  pub noted-node : h % 256 < fieldKind → n ≡ noted h n
   unfolding noted
-  noted-node l = rw (lt-ltb (h % 256) 128 l)
+  noted-node l = rw (lt-ltb (h % 256) fieldKind l)
 
-  pub noted-header : 128 ≤ h % 256 → h / 256 % 4096 + 4096 * (n % 68719476736) ≡ noted h n
+  pub noted-header : fieldKind ≤ h % 256 → h / 256 % wideLimit + wideLimit * (n % 68719476736) ≡ noted h n
   unfolding noted
-  noted-header l = rw (le-ltb (h % 256) 128 l)
+  noted-header l = rw (le-ltb (h % 256) fieldKind l)
 
 -- ---- the ways to return
 module _ (s : List ℕ) (end at n names : ℕ) where

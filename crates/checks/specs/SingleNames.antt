@@ -9,8 +9,9 @@ use borrow.Author.Tests.{eq-eqb, ne-eqb, le-ltb, eqb-true, eqb-false}
 use lib.Dec.{eqb}
 use lib.ListN.{length}
 use Rattle.atlite.specs.Base.{if_then_else_, member, distinct}
+use Rattle.layout.specs.Numbers.{fieldKind}
 use Rattle.layout.specs.PackLaws.{Each}
-use Rattle.words.specs.Wide.{wide, pair, wideParams}
+use Rattle.words.specs.Wide.{wide, pair, wideParams, wideLimit, wideThird}
 use Rattle.checks.specs.Names.{Name}
 use Rattle.checks.specs.TreeFits.{kind-wide, payload-wide}
 use Rattle.checks.specs.Single.{fresh, apart, noted}
@@ -79,20 +80,20 @@ pub from-none : (xs : List ℕ) → distinctFrom [] xs ≡ distinct xs
 from-none xs = from-split [] xs ∙ rw (disjoint-none xs)
 
 -- ---- the digits of a number of names
-module _ (a b c : ℕ) (ha : a < 4096) (hb : b < 4096) (hc : c < 4096) where
+module _ (a b c : ℕ) (ha : a < wideLimit) (hb : b < wideLimit) (hc : c < wideLimit) where
   fresh-digits : (x : ℕ) → fresh (pair a (pair b c)) x ≡ cond (eqb x a) false (cond (eqb x b) false (cond (eqb x c) false true))
   unfolding fresh
   fresh-digits x =
-      let d : pair a (pair b c) % 4096 ≡ a = omega arith in
-      let e : pair a (pair b c) / 4096 ≡ pair b c = omega arith in
-      let f : pair b c % 4096 ≡ b = omega arith in
-      let g : pair a (pair b c) / 16777216 ≡ c = omega arith in
-      let i : c % 4096 ≡ c = omega arith in
+      let d : pair a (pair b c) % wideLimit ≡ a = omega arith in
+      let e : pair a (pair b c) / wideLimit ≡ pair b c = omega arith in
+      let f : pair b c % wideLimit ≡ b = omega arith in
+      let g : pair a (pair b c) / wideThird ≡ c = omega arith in
+      let i : c % wideLimit ≡ c = omega arith in
       rw (d, e, f, g, i)
 
 -- a name's number fits, and is not 0
 abbrev pub Small : ℕ → Type 0
-Small x = x < 4096
+Small x = x < wideLimit
 
 pub fresh-packed : (ns : List ℕ) (x : ℕ) → length ns ≤ 3 → Each Small ns → 0 < x → fresh (packed ns) x ≡ not (member x ns)
 unfolding packed member
@@ -104,7 +105,7 @@ fresh-packed (a ∷ b ∷ []) x l h z =
     fresh-digits a b 0 (h .0) (h .1 .0) (omega arith) x
     ∙ rw (ne-eqb x 0 (λ e. omega arith), not-if (eqb x a) (if eqb x b then true else false), not-if (eqb x b) false)
 fresh-packed (a ∷ b ∷ c ∷ []) x l h z =
-    let last : c + 4096 * 0 ≡ c = omega arith in
+    let last : c + wideLimit * 0 ≡ c = omega arith in
     ap (λ k. fresh (pair a (pair b k)) x) last
     ∙ fresh-digits a b c (h .0) (h .1 .0) (h .1 .1 .0) x
     ∙ rw (not-if (eqb x a) (if eqb x b then true else (if eqb x c then true else false)), not-if (eqb x b) (if eqb x c then true else false), not-if (eqb x c) false)
@@ -118,25 +119,25 @@ packed-small (a ∷ b ∷ []) l h = omega (arith, h .0, h .1 .0)
 packed-small (a ∷ b ∷ c ∷ []) l h = omega (arith, h .0, h .1 .0, h .1 .1 .0)
 packed-small (a ∷ b ∷ c ∷ d ∷ ns) l h = absurd (omega arith)
 
-pub noted-packed : (k p m : ℕ) (ns : List ℕ) → 128 ≤ k → k < 256 → length ns ≤ 3 → Each Small ns → p % 4096 ≡ m → noted (wide k p) (packed ns) ≡ packed (m ∷ ns)
+pub noted-packed : (k p m : ℕ) (ns : List ℕ) → fieldKind ≤ k → k < 256 → length ns ≤ 3 → Each Small ns → p % wideLimit ≡ m → noted (wide k p) (packed ns) ≡ packed (m ∷ ns)
 unfolding noted packed
 noted-packed k p m ns hk lk l h e =
     let q : packed ns % 68719476736 ≡ packed ns = omega (arith, packed-small ns l h) in
-    rw (kind-wide k p lk, payload-wide k p lk, le-ltb k 128 hk, e, q)
+    rw (kind-wide k p lk, payload-wide k p lk, le-ltb k fieldKind hk, e, q)
 
 -- ---- parameters
-module _ (a b c : ℕ) (ha : a < 4096) (hb : b < 4096) (hc : c < 4096) where
-  apart-digits : apart (pair a (pair b c) % 4096) (pair a (pair b c) / 4096 % 4096) (pair a (pair b c) / 16777216 % 4096) ≡ apart a b c
+module _ (a b c : ℕ) (ha : a < wideLimit) (hb : b < wideLimit) (hc : c < wideLimit) where
+  apart-digits : apart (pair a (pair b c) % wideLimit) (pair a (pair b c) / wideLimit % wideLimit) (pair a (pair b c) / wideThird % wideLimit) ≡ apart a b c
   apart-digits =
-      let d : pair a (pair b c) % 4096 ≡ a = omega arith in
-      let e : pair a (pair b c) / 4096 ≡ pair b c = omega arith in
-      let f : pair b c % 4096 ≡ b = omega arith in
-      let g : pair a (pair b c) / 16777216 ≡ c = omega arith in
-      let i : c % 4096 ≡ c = omega arith in
+      let d : pair a (pair b c) % wideLimit ≡ a = omega arith in
+      let e : pair a (pair b c) / wideLimit ≡ pair b c = omega arith in
+      let f : pair b c % wideLimit ≡ b = omega arith in
+      let g : pair a (pair b c) / wideThird ≡ c = omega arith in
+      let i : c % wideLimit ≡ c = omega arith in
       rw (d, e, f, g, i)
 
 pub apart-params : (w : ℕ) (xs : List ℕ) → w ≤ 4000 → length xs ≤ 3 → Each (Name w) xs
-    → apart (wideParams xs % 4096) (wideParams xs / 4096 % 4096) (wideParams xs / 16777216 % 4096) ≡ distinct xs
+    → apart (wideParams xs % wideLimit) (wideParams xs / wideLimit % wideLimit) (wideParams xs / wideThird % wideLimit) ≡ distinct xs
 unfolding wideParams apart distinct member
 apart-params w [] l h a = refl
 apart-params w (x ∷ []) l h a = apart-digits x 0 0 (omega (arith, a .0 .below)) (omega arith) (omega arith)
@@ -144,8 +145,8 @@ apart-params w (x ∷ y ∷ []) l h a =
     apart-digits x y 0 (omega (arith, a .0 .below)) (omega (arith, a .1 .0 .below)) (omega arith)
     ∙ rw (ne-eqb y 0 (λ e. omega (arith, a .1 .0 .above)), not-if (eqb x y) false) (sym (and-true _))
 apart-params w (x ∷ y ∷ z ∷ []) l h a =
-    let last : z + 4096 * 0 ≡ z = omega arith in
-    ap (λ k. apart (pair x (pair y k) % 4096) (pair x (pair y k) / 4096 % 4096) (pair x (pair y k) / 16777216 % 4096)) last
+    let last : z + wideLimit * 0 ≡ z = omega arith in
+    ap (λ k. apart (pair x (pair y k) % wideLimit) (pair x (pair y k) / wideLimit % wideLimit) (pair x (pair y k) / wideThird % wideLimit)) last
     ∙ apart-digits x y z (omega (arith, a .0 .below)) (omega (arith, a .1 .0 .below)) (omega (arith, a .1 .1 .0 .below))
     ∙ rw (ne-eqb y 0 (λ e. omega (arith, a .1 .0 .above)), ne-eqb z 0 (λ e. omega (arith, a .1 .1 .0 .above)), not-if (eqb x y) (if eqb x z then true else false), not-if (eqb x z) false, not-if (eqb y z) false)
     (turn (eqb x y) (eqb x z) (eqb y z))

@@ -12,10 +12,11 @@ use Rattle.atlite.specs.Term.{Kind}
 use Rattle.atlite.specs.Scope.{single, singleAll, singleFields, singleMethods, fieldNames, methodNames}
 use Rattle.atlite.specs.Table.{countFields, countMethods, Grammatical, GrammaticalAll, GrammaticalFields, GrammaticalMethods}
 use Rattle.atlite.specs.Script.{SrcOp, Src, num, null, var, op, letIn, future, fn, when, literal, Srcs, nil, cons, SrcFields, noField, field, SrcMethods, noMethod, method, countSrcs}
+use Rattle.layout.specs.Numbers.{fieldKind}
 use Rattle.layout.specs.PackLaws.{Each}
 use Rattle.layout.specs.Terms.{kindNumber}
 use Rattle.layout.specs.Tables.{srcKind}
-use Rattle.words.specs.Wide.{wide, pair, wideParams, wideMethod, widePayload}
+use Rattle.words.specs.Wide.{wide, pair, wideParams, wideMethod, widePayload, wideLimit, wideParamsAt}
 use Rattle.checks.specs.Names.{Name, named, all-named}
 use Rattle.checks.specs.Operators.{op-passed}
 use Rattle.checks.specs.Trees.{Forest, empty, tree, put, putAll, putFields, putMethods}
@@ -27,9 +28,9 @@ own-wide : (k p n : ℕ) → k < 256 → own (wide k p) n ≡ ownBy k p n
 unfolding own
 own-wide k p n h = rw (kind-wide k p h, payload-wide k p h)
 
-noted-wide : (k p n : ℕ) → k < 128 → noted (wide k p) n ≡ n
+noted-wide : (k p n : ℕ) → k < fieldKind → noted (wide k p) n ≡ n
 unfolding noted
-noted-wide k p n h = let l : k < 256 = omega arith in rw (kind-wide k p l, lt-ltb k 128 h)
+noted-wide k p n h = let l : k < 256 = omega arith in rw (kind-wide k p l, lt-ltb k fieldKind h)
 
 pub sing-none : sing empty 0 ≡ true
 unfolding sing
@@ -40,23 +41,23 @@ unfolding sing
 no-more n = refl
 
 -- an expression's word, which lists o, with operands that list A and C
-node : (k p n : ℕ) (a c r : Forest) (o A C : Bool) → k < 128 → ownBy k p n ≡ o → sing a 0 ≡ A → sing c 0 ≡ C → sing (tree (wide k p) a c r) n ≡ (o && (A && C)) && sing r n
+node : (k p n : ℕ) (a c r : Forest) (o A C : Bool) → k < fieldKind → ownBy k p n ≡ o → sing a 0 ≡ A → sing c 0 ≡ C → sing (tree (wide k p) a c r) n ≡ (o && (A && C)) && sing r n
 unfolding sing
 node k p n a c r o A C h e x y =
     let l : k < 256 = omega arith in
     rw (own-wide k p n l, e, noted-wide k p n h, x, y) (sym (and-assoc o (A && C) (sing r n) ∙ ap (λ b. o && b) (and-assoc A C (sing r n))))
 
 -- a word with no list of its own, and operands of the first kind, of the second, of both
-first : (k p n : ℕ) (a r : Forest) (A : Bool) → k < 128 → ownBy k p n ≡ true → sing a 0 ≡ A → sing (tree (wide k p) a empty r) n ≡ A && sing r n
+first : (k p n : ℕ) (a r : Forest) (A : Bool) → k < fieldKind → ownBy k p n ≡ true → sing a 0 ≡ A → sing (tree (wide k p) a empty r) n ≡ A && sing r n
 first k p n a r A h e x = node k p n a empty r true A true h e x sing-none ∙ ap (λ b. b && sing r n) (and-true A)
 
-second : (k p n : ℕ) (c r : Forest) (C : Bool) → k < 128 → ownBy k p n ≡ true → sing c 0 ≡ C → sing (tree (wide k p) empty c r) n ≡ C && sing r n
+second : (k p n : ℕ) (c r : Forest) (C : Bool) → k < fieldKind → ownBy k p n ≡ true → sing c 0 ≡ C → sing (tree (wide k p) empty c r) n ≡ C && sing r n
 second k p n c r C h e y = node k p n empty c r true true C h e sing-none y
 
-both : (k p n : ℕ) (a c r : Forest) (A C : Bool) → k < 128 → ownBy k p n ≡ true → sing a 0 ≡ A → sing c 0 ≡ C → sing (tree (wide k p) a c r) n ≡ (A && C) && sing r n
+both : (k p n : ℕ) (a c r : Forest) (A C : Bool) → k < fieldKind → ownBy k p n ≡ true → sing a 0 ≡ A → sing c 0 ≡ C → sing (tree (wide k p) a c r) n ≡ (A && C) && sing r n
 both k p n a c r A C h e x y = node k p n a c r true A C h e x y
 
-leaf : (k p n : ℕ) (r : Forest) → k < 128 → ownBy k p n ≡ true → sing (tree (wide k p) empty empty r) n ≡ sing r n
+leaf : (k p n : ℕ) (r : Forest) → k < fieldKind → ownBy k p n ≡ true → sing (tree (wide k p) empty empty r) n ≡ sing r n
 leaf k p n r h e = node k p n empty empty r true true true h e sing-none sing-none
 
 one : (f : Forest) (A : Bool) → sing f 0 ≡ A && sing empty 0 → sing f 0 ≡ A
@@ -64,19 +65,19 @@ one f A e = e ∙ ap (λ b. A && b) sing-none ∙ and-true A
 
 -- an operator has no list of names
 op-own : (o : SrcOp) (n p : ℕ) → ownBy (srcKind o) p n ≡ true
-op-own o n p = let s = op-passed o in rw (ne-eqb (srcKind o) 12 (s .noFuture), ne-eqb (srcKind o) 128 (λ e. omega (arith, s .below)), ne-eqb (srcKind o) 192 (λ e. omega (arith, s .below)))
+op-own o n p = let s = op-passed o in rw (ne-eqb (srcKind o) 12 (s .noFuture), ne-eqb (srcKind o) fieldKind (λ e. omega (arith, s .below)), ne-eqb (srcKind o) 192 (λ e. omega (arith, s .below)))
 
 -- ---- lists of names
-small : (w m : ℕ) → w ≤ 4000 → Name w m → m < 4096
+small : (w m : ℕ) → w ≤ 4000 → Name w m → m < wideLimit
 small w m l h = omega (arith, h .below)
 
 future-own : (w x y n : ℕ) → w ≤ 4000 → Name w x → Name w y → ownBy 12 (pair x y) n ≡ not (eqb x y)
 future-own w x y n l hx hy =
     let h = small w x l hx in
     let i = small w y l hy in
-    let a : pair x y % 4096 ≡ x = omega arith in
-    let b : pair x y / 4096 ≡ y = omega arith in
-    let c : y % 4096 ≡ y = omega arith in
+    let a : pair x y % wideLimit ≡ x = omega arith in
+    let b : pair x y / wideLimit ≡ y = omega arith in
+    let c : y % wideLimit ≡ y = omega arith in
     rw (a, b, c)
 
 field-turn : (a b d s : Bool) → a && (b && (true && (d && s))) ≡ (a && d) && (b && s)
@@ -94,19 +95,19 @@ method-turn true false b false s = refl
 method-turn false x b d s = refl
 
 a-field : (w f : ℕ) (ns : List ℕ) (a r : Forest) (A D S : Bool) → w ≤ 4000 → Name w f → length ns ≤ 3 → Each Small ns → sing a 0 ≡ A → sing r (packed (f ∷ ns)) ≡ D && S
-    → sing (tree (wide 128 f) a empty r) (packed ns) ≡ (not (member f ns) && D) && (A && S)
+    → sing (tree (wide fieldKind f) a empty r) (packed ns) ≡ (not (member f ns) && D) && (A && S)
 unfolding sing
 a-field w f ns a r A D S l hf ln hn x y =
-    let m : f % 4096 ≡ f = omega (arith, hf .below) in
-    let o : own (wide 128 f) (packed ns) ≡ not (member f ns) = own-wide 128 f (packed ns) (omega arith) ∙ rw m (fresh-packed ns f ln hn (omega (arith, hf .above))) in
-    rw (o, noted-packed 128 f f ns (omega arith) (omega arith) ln hn m, x, y) (field-turn (not (member f ns)) A D S)
+    let m : f % wideLimit ≡ f = omega (arith, hf .below) in
+    let o : own (wide fieldKind f) (packed ns) ≡ not (member f ns) = own-wide fieldKind f (packed ns) (omega arith) ∙ rw m (fresh-packed ns f ln hn (omega (arith, hf .above))) in
+    rw (o, noted-packed fieldKind f f ns (omega arith) (omega arith) ln hn m, x, y) (field-turn (not (member f ns)) A D S)
 
 a-method : (w m : ℕ) (xs ns : List ℕ) (c r : Forest) (C D S : Bool) → w ≤ 4000 → Name w m → length xs ≤ 3 → Each (Name w) xs → length ns ≤ 3 → Each Small ns → sing c 0 ≡ C → sing r (packed (m ∷ ns)) ≡ D && S
     → sing (tree (wideMethod m xs) empty c r) (packed ns) ≡ (not (member m ns) && D) && (distinct xs && C && S)
 unfolding sing wideMethod
 a-method w m xs ns c r C D S l hm lx hx ln hn y z =
-    let e : pair m (length xs + 4 * wideParams xs) % 4096 ≡ m = omega (arith, hm .below) in
-    let q : pair m (length xs + 4 * wideParams xs) / 16384 ≡ wideParams xs = omega (arith, hm .below) in
+    let e : pair m (length xs + 4 * wideParams xs) % wideLimit ≡ m = omega (arith, hm .below) in
+    let q : pair m (length xs + 4 * wideParams xs) / wideParamsAt ≡ wideParams xs = omega (arith, hm .below) in
     let o : own (wide 192 (pair m (length xs + 4 * wideParams xs))) (packed ns) ≡ not (member m ns) && distinct xs
     = own-wide 192 (pair m (length xs + 4 * wideParams xs)) (packed ns) (omega arith) ∙ rw (e, q, fresh-packed ns m ln hn (omega (arith, hm .above)), apart-params w xs l lx hx) in
     rw (o, noted-packed 192 (pair m (length xs + 4 * wideParams xs)) m ns (omega arith) (omega arith) ln hn e, y, z) (method-turn (not (member m ns)) (distinct xs) C D S)

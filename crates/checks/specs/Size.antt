@@ -15,6 +15,7 @@ use Rattle.atlite.specs.Base.{done}
 use Rattle.atlite.specs.Script.{seq, Src, num, null, var, op, letIn, future, fn, when, literal, Srcs, nil, cons, SrcFields, noField, field, SrcMethods, noMethod, method, Line, expression, define, size, sizeAll, sizeFields, sizeMethods, join}
 use Rattle.atlite.specs.Facts.{refused-done}
 use Rattle.atlite.specs.Term.{Kind}
+use Rattle.layout.specs.Numbers.{fieldKind}
 use Rattle.layout.specs.Pack.{flat}
 use Rattle.layout.specs.Terms.{kindNumber}
 use Rattle.layout.specs.Tables.{srcKind}
@@ -24,7 +25,7 @@ use Rattle.checks.specs.Stands.{Stands, within}
 use Rattle.words.specs.Wide.{wide, wideMethod, wideSrc, wideSrcs, wideFields, wideMethods, wideLine, wideLines}
 
 unfoldable pub isNode : ℕ → ℕ
-isNode h = cond (ltb (h % 256) 128) 1 0
+isNode h = cond (ltb (h % 256) fieldKind) 1 0
 
 unfoldable pub nodesIn : List ℕ → ℕ
 nodesIn [] = 0
@@ -38,13 +39,13 @@ pub record NodeOf (h r : ℕ) : Type 0 where
 unfoldable pub Size : List ℕ → ℕ → ℕ → ℕ → Type 0
 Size s words lines r = (ls : List Line) (e : Src) → Stands s words lines ls → join ls ≡ done e → r ≡ size e
 
-pub node-yes : (h : ℕ) → h % 256 < 128 → NodeOf h 1
+pub node-yes : (h : ℕ) → h % 256 < fieldKind → NodeOf h 1
 unfolding isNode
-node-yes h t = record { is = rw (lt-ltb (h % 256) 128 t); small = omega arith }
+node-yes h t = record { is = rw (lt-ltb (h % 256) fieldKind t); small = omega arith }
 
-pub node-no : (h : ℕ) → 128 ≤ h % 256 → NodeOf h 0
+pub node-no : (h : ℕ) → fieldKind ≤ h % 256 → NodeOf h 0
 unfolding isNode
-node-no h t = record { is = rw (le-ltb (h % 256) 128 t); small = omega arith }
+node-no h t = record { is = rw (le-ltb (h % 256) fieldKind t); small = omega arith }
 
 -- ---- the loop
 unfoldable pub Counting : List ℕ → ℕ → ℕ → ℕ → Type 0
@@ -72,10 +73,10 @@ unfolding nodesIn
 nodes-append [] w = sym (zero-add (nodesIn w))
 nodes-append (h ∷ v) w = rw (nodes-append v w) (omega arith)
 
-is-node : (k p : ℕ) → k < 128 → isNode (wide k p) ≡ 1
+is-node : (k p : ℕ) → k < fieldKind → isNode (wide k p) ≡ 1
 is-node k p h = sym (node-yes (wide k p) (omega arith) .is)
 
-is-header : (k p : ℕ) → 128 ≤ k → k < 256 → isNode (wide k p) ≡ 0
+is-header : (k p : ℕ) → fieldKind ≤ k → k < 256 → isNode (wide k p) ≡ 0
 is-header k p h l = sym (node-no (wide k p) (omega arith) .is)
 
 literal-node : (k : Kind) (p : ℕ) → isNode (wide (kindNumber k) p) ≡ 1
@@ -119,7 +120,7 @@ mutual
 
   nodes-fields : (fs : SrcFields) → nodesIn (wideFields fs) ≡ sizeFields fs
   nodes-fields noField = nodes-nil
-  nodes-fields (field f e fs) = no-part _ _ _ _ _ (is-header 128 f (omega arith) (omega arith)) (nodes-src e) (nodes-fields fs)
+  nodes-fields (field f e fs) = no-part _ _ _ _ _ (is-header fieldKind f (omega arith) (omega arith)) (nodes-src e) (nodes-fields fs)
 
   nodes-methods : (ms : SrcMethods) → nodesIn (wideMethods ms) ≡ sizeMethods ms
   nodes-methods noMethod = nodes-nil

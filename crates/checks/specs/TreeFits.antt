@@ -6,6 +6,7 @@ use borrow.Author.Tests.{ne-eqb}
 use Rattle.atlite.specs.Term.{Kind}
 use Rattle.atlite.specs.Table.{countFields, countMethods, Grammatical, GrammaticalAll, GrammaticalFields, GrammaticalMethods}
 use Rattle.atlite.specs.Script.{SrcOp, Src, num, null, var, op, letIn, future, fn, when, literal, Srcs, nil, cons, SrcFields, noField, field, SrcMethods, noMethod, method, countSrcs}
+use Rattle.layout.specs.Numbers.{fieldKind}
 use Rattle.layout.specs.Kinds.{Kinds}
 use Rattle.layout.specs.Terms.{kindNumber}
 use Rattle.layout.specs.Tables.{srcKind}
@@ -90,7 +91,7 @@ mutual
 
   fits-fields : (fs : SrcFields) (w : ℕ) → w ≤ 4000 → GrammaticalFields w fs → Fits (putFields fs empty)
   fits-fields noField w l g = none
-  fits-fields (field f e fs) w l g = fits 128 f _ empty _ 1 0 (omega arith) (count-one e) count-none refl refl (fits-put e empty w l (g .1) none) none (fits-fields fs w l (g .2))
+  fits-fields (field f e fs) w l g = fits fieldKind f _ empty _ 1 0 (omega arith) (count-one e) count-none refl refl (fits-put e empty w l (g .1) none) none (fits-fields fs w l (g .2))
 
   fits-methods : (ms : SrcMethods) (w : ℕ) → w ≤ 4000 → GrammaticalMethods w ms → Fits (putMethods ms empty)
   fits-methods noMethod w l g = none

@@ -7,10 +7,11 @@ use mathlib.Core.List.{List, [], _∷_, _++_, append-assoc, append-nil}
 use lib.Dec.{eqb}
 use Rattle.atlite.specs.Table.{countFields, countMethods}
 use Rattle.atlite.specs.Script.{Src, num, null, var, op, letIn, future, fn, when, literal, Srcs, nil, cons, SrcFields, noField, field, SrcMethods, noMethod, method, countSrcs}
+use Rattle.layout.specs.Numbers.{fieldKind}
 use Rattle.layout.specs.Kinds.{rowIn}
 use Rattle.layout.specs.Terms.{kindNumber}
 use Rattle.layout.specs.Tables.{srcKind}
-use Rattle.words.specs.Wide.{wide, pair, widePayload, wideMethod, wideSrc, wideSrcs, wideFields, wideMethods}
+use Rattle.words.specs.Wide.{wide, pair, widePayload, wideMethod, wideSrc, wideSrcs, wideFields, wideMethods, wideLimit}
 
 pub data Forest : Type 0 where
   empty : Forest
@@ -29,16 +30,16 @@ abbrev pub outerBy : ℕ → ℕ → ℕ
 outerBy k p =
     cond (eqb k 11) 1
     (cond (eqb k 12) 0
-    (cond (eqb k 13) (1 + p / 4096 % 4)
-    (cond (eqb k 14) (1 + p / 4096 % 4)
+    (cond (eqb k 13) (1 + p / wideLimit % 4)
+    (cond (eqb k 14) (1 + p / wideLimit % 4)
     (cond (eqb k 15) (p % 8)
     (cond (eqb k 16) (p % 8)
     (cond (eqb k 17) (p % 8)
-    (cond (eqb k 64) (1 + p / 4096 % 4)
+    (cond (eqb k 64) (1 + p / wideLimit % 4)
     (cond (eqb k 66) 2
     (cond (eqb k 67) 1
     (cond (eqb k 68) 2
-    (cond (eqb k 128) 1
+    (cond (eqb k fieldKind) 1
     (rowIn k % 4))))))))))))
 
 abbrev pub innerBy : ℕ → ℕ → ℕ
@@ -83,7 +84,7 @@ unfoldable mutual
 
   pub putFields : SrcFields → Forest → Forest
   putFields noField r = r
-  putFields (field f e fs) r = tree (wide 128 f) (put e empty) empty (putFields fs r)
+  putFields (field f e fs) r = tree (wide fieldKind f) (put e empty) empty (putFields fs r)
 
   pub putMethods : SrcMethods → Forest → Forest
   putMethods noMethod r = r
@@ -132,8 +133,8 @@ mutual
   words-fields : (fs : SrcFields) (r : Forest) → words (putFields fs r) ≡ wideFields fs ++ words r
   words-fields noField r = refl
   words-fields (field f e fs) r =
-      first _ _ (putFields fs r) _ (one _ (wideSrc e) (words-put e empty)) ∙ ap (λ l. wide 128 f ∷ (wideSrc e ++ l)) (words-fields fs r)
-      ∙ ap (λ l. wide 128 f ∷ l) (sym (append-assoc (wideSrc e) (wideFields fs) (words r)))
+      first _ _ (putFields fs r) _ (one _ (wideSrc e) (words-put e empty)) ∙ ap (λ l. wide fieldKind f ∷ (wideSrc e ++ l)) (words-fields fs r)
+      ∙ ap (λ l. wide fieldKind f ∷ l) (sym (append-assoc (wideSrc e) (wideFields fs) (words r)))
 
   words-methods : (ms : SrcMethods) (r : Forest) → words (putMethods ms r) ≡ wideMethods ms ++ words r
   words-methods noMethod r = refl

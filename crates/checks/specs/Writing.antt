@@ -10,19 +10,21 @@ use borrow.Author.Tests.{eq-eqb, ne-eqb}
 use lib.ListN.{length, getD, set, take, drop, replicate, drop-of-length-le}
 use lib.Seq.{sets, slice, slice-cons, slice-empty, drop-cons}
 use Rattle.atlite.specs.Lexicon.{Bytes}
+use Rattle.layout.specs.Numbers.{payload, nameLimit, noName, taggedLimit, linesAt}
 use Rattle.layout.specs.Pack.{zeros, flat}
 use Rattle.layout.specs.PackLaws.{pack-low, pack-high}
 use Rattle.layout.specs.Layout.{bytesNumber, threeWords, encodeWord}
+use Rattle.words.specs.Wide.{wideLimit, wideParamsAt, wideThird}
 use Rattle.checks.specs.Narrow.{tableWord, placed, methodWord, pairWord, narrowBy, narrow, narrowAll}
 
 pub record Placed (x r : ℕ) : Type 0 where
   pub is : r ≡ placed x
-  pub within : r ≤ x + 127
+  pub within : r ≤ x + noName
 
 pub record MethodWord (p r : ℕ) : Type 0 where
   pub is : r ≡ methodWord p
 
-pub placed-none : (x : ℕ) → x ≡ 0 → Placed x 127
+pub placed-none : (x : ℕ) → x ≡ 0 → Placed x noName
 unfolding placed
 placed-none x e = record { is = rw (eq-eqb x 0 e); within = omega arith }
 
@@ -30,33 +32,33 @@ pub placed-some : (x : ℕ) → (x ≡ 0 → ⊥) → Placed x x
 unfolding placed
 placed-some x e = record { is = rw (ne-eqb x 0 e); within = omega arith }
 
-pub table-word : (k p : ℕ) → p % 16777216 + 16777216 * k ≡ tableWord k p
+pub table-word : (k p : ℕ) → p % payload + payload * k ≡ tableWord k p
 unfolding tableWord
 table-word k p = refl
 
-pub method-word : (p x y z : ℕ) → Placed (p / 16384 % 4096) x → Placed (p / 16384 / 4096 % 4096) y → Placed (p / 16384 / 16777216 % 4096) z
-    → MethodWord p ((p % 4096 + 128 * (p / 4096 % 4 + 4 * (x + 128 * (y + 128 * z)))) % 1073741824 + 3221225472)
+pub method-word : (p x y z : ℕ) → Placed (p / wideParamsAt % wideLimit) x → Placed (p / wideParamsAt / wideLimit % wideLimit) y → Placed (p / wideParamsAt / wideThird % wideLimit) z
+    → MethodWord p ((p % wideLimit + nameLimit * (p / wideLimit % 4 + 4 * (x + nameLimit * (y + nameLimit * z)))) % (64 * payload) + 192 * payload)
 unfolding methodWord
 method-word p x y z hx hy hz = record { is = rw (hx .is, hy .is, hz .is) }
 
 module _ (h r : ℕ) where
-  pub narrow-future : h % 256 ≡ 12 → r ≡ tableWord (h % 256) (h / 256 % 4096 + 128 * (h / 256 / 4096 % 4096)) → r ≡ narrow h
+  pub narrow-future : h % 256 ≡ 12 → r ≡ tableWord (h % 256) (h / 256 % wideLimit + nameLimit * (h / 256 / wideLimit % wideLimit)) → r ≡ narrow h
   unfolding narrow narrowBy pairWord
   narrow-future e i = i ∙ rw e
 
-  sent : narrowBy (h % 256) (h / 256) ≡ pairWord 512 (h % 256) (h / 256) → r ≡ tableWord (h % 256) (h / 256 % 4096 + 512 * (h / 256 / 4096 % 4096)) → r ≡ narrow h
+  sent : narrowBy (h % 256) (h / 256) ≡ pairWord taggedLimit (h % 256) (h / 256) → r ≡ tableWord (h % 256) (h / 256 % wideLimit + taggedLimit * (h / 256 / wideLimit % wideLimit)) → r ≡ narrow h
   unfolding narrow pairWord
   sent e i = i ∙ sym e
 
-  pub narrow-call : h % 256 ≡ 13 → r ≡ tableWord (h % 256) (h / 256 % 4096 + 512 * (h / 256 / 4096 % 4096)) → r ≡ narrow h
+  pub narrow-call : h % 256 ≡ 13 → r ≡ tableWord (h % 256) (h / 256 % wideLimit + taggedLimit * (h / 256 / wideLimit % wideLimit)) → r ≡ narrow h
   unfolding narrowBy
   narrow-call e = sent (rw e)
 
-  pub narrow-send : h % 256 ≡ 14 → r ≡ tableWord (h % 256) (h / 256 % 4096 + 512 * (h / 256 / 4096 % 4096)) → r ≡ narrow h
+  pub narrow-send : h % 256 ≡ 14 → r ≡ tableWord (h % 256) (h / 256 % wideLimit + taggedLimit * (h / 256 / wideLimit % wideLimit)) → r ≡ narrow h
   unfolding narrowBy
   narrow-send e = sent (rw e)
 
-  pub narrow-ask : h % 256 ≡ 64 → r ≡ tableWord (h % 256) (h / 256 % 4096 + 512 * (h / 256 / 4096 % 4096)) → r ≡ narrow h
+  pub narrow-ask : h % 256 ≡ 64 → r ≡ tableWord (h % 256) (h / 256 % wideLimit + taggedLimit * (h / 256 / wideLimit % wideLimit)) → r ≡ narrow h
   unfolding narrowBy
   narrow-ask e = sent (rw e)
 
@@ -73,7 +75,7 @@ unfoldable pub Cleared : List ℕ → ℕ → ℕ → List ℕ → Type 0
 Cleared old a b new = new ≡ sets old a (zeros (b - a))
 
 unfoldable pub LinesPut : List ℕ → List ℕ → ℕ → List ℕ → Type 0
-LinesPut old s words new = words ≤ length s → new ≡ sets old 256 (narrowAll (take words s))
+LinesPut old s words new = words ≤ length s → new ≡ sets old linesAt (narrowAll (take words s))
 
 -- the k-th word's number is that of its bytes
 pub record Numbers (low high : List ℕ) (ws : List Bytes) : Type 0 where
@@ -106,24 +108,24 @@ clear-done old a b new i h l = let e : b - i ≡ 0 = omega arith in ap (λ n. se
 
 -- ---- the lines
 unfoldable pub Lining : List ℕ → List ℕ → ℕ → List ℕ → ℕ → Type 0
-Lining old s words new i = words ≤ length s → sets new (256 + i) (narrowAll (slice i words s)) ≡ sets old 256 (narrowAll (take words s))
+Lining old s words new i = words ≤ length s → sets new (linesAt + i) (narrowAll (slice i words s)) ≡ sets old linesAt (narrowAll (take words s))
 
 pub line-start : (old s : List ℕ) (words : ℕ) → Lining old s words old 0
 unfolding Lining
 line-start old s words l = refl
 
-pub line-on : (old s : List ℕ) (words : ℕ) (new : List ℕ) (i v : ℕ) (next : List ℕ) → Lining old s words new i → i < words → v ≡ narrow (getD s i 0) → next ≡ set new (256 + i) v → Lining old s words next (i + 1)
+pub line-on : (old s : List ℕ) (words : ℕ) (new : List ℕ) (i v : ℕ) (next : List ℕ) → Lining old s words new i → i < words → v ≡ narrow (getD s i 0) → next ≡ set new (linesAt + i) v → Lining old s words next (i + 1)
 unfolding Lining narrowAll
 line-on old s words new i v next h l ev en b =
-    let e : 256 + (i + 1) ≡ suc (256 + i) = omega arith in
+    let e : linesAt + (i + 1) ≡ suc (linesAt + i) = omega arith in
     let p : narrowAll (slice i words s) ≡ narrow (getD s i 0) ∷ narrowAll (slice (suc i) words s) = ap narrowAll (slice-cons i words s 0 l b) in
-    rw (en, ev, e, add-one i) (ap (sets new (256 + i)) (sym p) ∙ h b)
+    rw (en, ev, e, add-one i) (ap (sets new (linesAt + i)) (sym p) ∙ h b)
 
 pub line-done : (old s : List ℕ) (words : ℕ) (new : List ℕ) (i : ℕ) → Lining old s words new i → i ≤ words → words ≤ i → LinesPut old s words new
 unfolding Lining LinesPut narrowAll
 line-done old s words new i h a z b =
     let e : i ≡ words = omega arith in
-    ap (λ w. sets new (256 + i) (narrowAll w)) (sym (ap (λ j. slice j words s) e ∙ slice-empty words s)) ∙ h b
+    ap (λ w. sets new (linesAt + i) (narrowAll w)) (sym (ap (λ j. slice j words s) e ∙ slice-empty words s)) ∙ h b
 
 -- ---- the dictionary
 pub word-put : (old : List ℕ) (at low high a b : ℕ) (l₁ l₂ l₃ : List ℕ) → a ≡ low % 4294967296 → l₁ ≡ set old at a → b ≡ low / 4294967296 → l₂ ≡ set l₁ (at + 1) b

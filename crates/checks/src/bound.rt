@@ -4,6 +4,7 @@
 // where its level is above the base. An isolate's or an actor's literal hides what is bound around it: inside, the level is the base.
 ghost use mathlib.Core.Path.{_≡_};
 ghost use Prim.Native.Nat.{_+_, _≤_, _<_};
+ghost use Rattle.words.specs.Wide.{wideLimit};
 ghost use Rattle.checks.specs.Trees.{inner};
 ghost use lib.ListN.{replicate};
 ghost use Rattle.checks.specs.BoundLines.{LinesBound, AllBound};
@@ -64,7 +65,7 @@ fn binds(h: u64) -> u64
 
 // Puts `v` for the name `x`, and returns what stood there.
 fn swap(last: &mut [u16; 4096], x: usize, v: u16) -> u16
-    requires { ⌜ x < 4096 ⌝ }
+    requires { ⌜ x < wideLimit ⌝ }
     ensures { λ r. ⌜ Swapped (now (last .entry)) x v (now (last .exit)) r ⌝ }
 {
     let old = last[x];

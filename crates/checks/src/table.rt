@@ -1,7 +1,10 @@
 // The words of a table, from a script in its scratch form and its dictionary.
+use layout::LINES;
+use layout::TABLE;
 ghost use mathlib.Core.Path.{_≡_};
 ghost use Prim.Native.Nat.{_+_, _*_, _/_, _%_, _≤_, _<_};
 ghost use lib.ListN.{length, set};
+ghost use Rattle.layout.specs.Numbers.{linesSize, tableWords};
 ghost use Rattle.checks.specs.Narrow.{tableWord, narrow as narrowed};
 ghost use Rattle.checks.specs.Written.{Written};
 ghost use Rattle.checks.specs.Writing.{Placed, MethodWord, Cleared, LinesPut, WordPut, WordsPut};
@@ -70,12 +73,12 @@ fn clear(table: &mut [u32], from: usize, to: usize)
 
 // Writes the lines' words behind the head.
 fn put_lines(table: &mut [u32], s: &[u64; 4096], words: usize)
-    requires { ⌜ (1280 ≤ length (now table)) × (words ≤ 1024) ⌝ }
+    requires { ⌜ (tableWords ≤ length (now table)) × (words ≤ linesSize) ⌝ }
     ensures { λ r. ⌜ LinesPut (now (table .entry)) (now (s .entry)) words (now (table .exit)) ⌝ }
 {
     let mut i = 0;
     while i < words {
-        put(table, 256 + i, narrow(s[i]));
+        put(table, LINES + i, narrow(s[i]));
         i += 1;
     }
 }
@@ -104,7 +107,7 @@ fn put_word(table: &mut [u32], at: usize, low: u64, high: u32)
 
 // Writes the dictionary.
 fn put_words(table: &mut [u32], low: &[u64; 2048], high: &[u32; 2048], count: usize)
-    requires { ⌜ (1280 ≤ length (now table)) × (count ≤ 64) ⌝ }
+    requires { ⌜ (tableWords ≤ length (now table)) × (count ≤ 64) ⌝ }
     ensures { λ r. ⌜ WordsPut (now (table .entry)) (now (low .entry)) (now (high .entry)) count (now (table .exit)) ⌝ }
 {
     let mut k = 0;
@@ -124,14 +127,14 @@ pub fn write_table(
     count: usize,
     table: &mut [u32],
 )
-    requires { ⌜ (1280 ≤ length (now table)) × (count ≤ 64) × (words ≤ 1024) × (lines ≤ 4096) ⌝ }
+    requires { ⌜ (tableWords ≤ length (now table)) × (count ≤ 64) × (words ≤ linesSize) × (lines ≤ 4096) ⌝ }
     ensures { λ r. ⌜ Written (now (s .entry)) words lines (now (low .entry)) (now (high .entry)) count (now (table .entry)) (now (table .exit)) ⌝ }
 {
     put(table, 0, count as u32);
     put(table, 1, lines as u32);
     put(table, 2, words as u32);
     put_words(table, low, high, count);
-    clear(table, 3 * count + 3, 256);
+    clear(table, 3 * count + 3, LINES);
     put_lines(table, s, words);
-    clear(table, 256 + words, 1280);
+    clear(table, LINES + words, TABLE);
 }

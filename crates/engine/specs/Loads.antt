@@ -10,8 +10,7 @@ use Rattle.atlite.specs.Base.{isDone, require}
 use Rattle.atlite.specs.Answers.{loadAnswer}
 use Rattle.atlite.specs.declared.Loaded.{Loaded}
 use Rattle.atlite.specs.declared.Loaded.the-variants.{Done, Refused}
-use Rattle.layout.specs.Layout.{stateWords}
-use Rattle.layout.specs.Tables.{tableWords}
+use Rattle.layout.specs.Numbers.{stateWords, tableWords}
 use Rattle.layout.specs.TableReading.{tableOf}
 use Rattle.layout.specs.Meaning.{answered, tableIn, loadCall}
 use Rattle.layout.specs.Outcomes.{room-enough, room-short}
@@ -25,16 +24,16 @@ unfoldable pub LoadsCall : List ℕ → List ℕ → Loaded → List ℕ → Typ
 LoadsCall t old r new = (loadAnswer r ≡ loadCall t old .result) × (new ≡ loadCall t old .buffer)
 
 module _ (t old : List ℕ) where
-  pub table-short : length t < 1280 → LoadsCall t old (Refused 6) old
+  pub table-short : length t < tableWords → LoadsCall t old (Refused 6) old
   unfolding LoadsCall loadAnswer loadCall answered
   table-short h = rw (room-short tableWords t h) (refl, refl)
 
-  module _ (h : 1280 ≤ length t) where
-    pub state-short : length old < 16384 → LoadsCall t old (Refused 6) old
+  module _ (h : tableWords ≤ length t) where
+    pub state-short : length old < stateWords → LoadsCall t old (Refused 6) old
     unfolding LoadsCall loadAnswer loadCall answered
     state-short k = rw (room-enough tableWords t h, room-short stateWords old k) (refl, refl)
 
-    module _ (k : 16384 ≤ length old) (b : Bool) (e : b ≡ isDone (tableIn t)) where
+    module _ (k : stateWords ≤ length old) (b : Bool) (e : b ≡ isDone (tableIn t)) where
       pub no-table : b ≡ false → LoadsCall t old (Refused 7) old
       unfolding LoadsCall loadAnswer loadCall answered tableIn
       no-table n = rw (room-enough tableWords t h, room-enough stateWords old k, refused-told (tableOf (take tableWords t)) (sym e ∙ n)) (refl, refl)

@@ -11,7 +11,7 @@ use Rattle.atlite.specs.Answers.{listAnswer}
 use Rattle.atlite.specs.declared.Moved.{Moved}
 use Rattle.atlite.specs.declared.Ran.{Ran}
 use Rattle.atlite.specs.declared.Listed.{Listed}
-use Rattle.layout.specs.Layout.{stateWords}
+use Rattle.layout.specs.Numbers.{stateWords}
 use Rattle.state.specs.Calls.{ListsCall}
 use Rattle.schedule.specs.Claim.{Call, move, run, leaves, leftBy, movedBy, Agree, written, SameEnd}
 use Rattle.schedule.specs.TwoLists.{two-lists}

@@ -4,15 +4,17 @@ ghost use Rattle.atlite.specs.Answers.{loadAnswer};
 ghost use Rattle.layout.specs.Meaning.{loadCall};
 ghost use Rattle.engine.specs.Loads.{LoadsCall};
 use atlite::Loaded;
+use layout::STATE;
+use layout::TABLE;
 
 // The causes in their order: lengths, words that are no table, a script that is too large. The last is found before a word is written.
 fn load_lent(table: &[u32], state: &mut [u32]) -> Loaded
     ensures { λ r. ⌜ LoadsCall (now (table .entry)) (now (state .entry)) r (now (state .exit)) ⌝ }
 {
-    if table.len() < 1280 {
+    if table.len() < TABLE {
         return Loaded::Refused(6);
     }
-    if state.len() < 16384 {
+    if state.len() < STATE {
         return Loaded::Refused(6);
     }
     if script::is_table(table) {

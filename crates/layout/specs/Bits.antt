@@ -8,6 +8,7 @@ use lib.ListN.{length, length-append}
 use Rattle.atlite.specs.Term.{made, copied, Value, null, num, ref, Name, Op, Term, val, var, op, letIn, future, literal, Terms, nil, cons, Inits, noField, Methods, noMethod, method, countTerms, shape}
 use Rattle.atlite.specs.State.{Message, message, field, Entity, object, resolver, Actor, State, fieldNames, fieldValues}
 use Rattle.atlite.specs.Valid.{IsState}
+use Rattle.layout.specs.Numbers.{payload, nameLimit, numberLimit, exprAt, exprSize, queueSize, madeSize, copiedSize, bodiesSize, restSize, headSize, partsSize, tailSize}
 use Rattle.layout.specs.Pack.{node, zeros, pad, flat}
 use Rattle.layout.specs.PackLaws.{Each, each-map, NameFits, names-small, places-small}
 use Rattle.layout.specs.Terms.{countInits, countMethods, encodeValue, asked, opKind, opPayload, kindNumber, fieldHeader, methodHeader, encodeTerm, encodeTerms, encodeInits, encodeMethods}
@@ -42,7 +43,7 @@ flat-small g [] h = tt
 flat-small g (x ∷ xs) h = both (g x) (flat g xs) (h .0) (flat-small g xs (h .1))
 
 -- ---- terms
-pub node-small : (k p : ℕ) → k < 256 → p < 16777216 → node k p < 4294967296
+pub node-small : (k p : ℕ) → k < 256 → p < payload → node k p < 4294967296
 node-small k p h l = omega arith
 
 value-small : (v : Value) → ValueFits v → encodeValue v < 4294967296
@@ -76,7 +77,7 @@ mutual
   term-small (op o es) h = (op-word o (countTerms es) (h .0), terms-small es (h .1))
   term-small (letIn x a b) h = (name-small 11 x (omega arith) (h .0), both (encodeTerm a) (encodeTerm b) (term-small a (h .1)) (term-small b (h .2)))
   term-small (future x y e) h =
-      (node-small 12 (x + 128 * y) (omega arith) (omega (arith, h .0, h .1)), term-small e (h .2))
+      (node-small 12 (x + nameLimit * y) (omega arith) (omega (arith, h .0, h .1)), term-small e (h .2))
   term-small (literal k fs ms) h =
       let i = h .0 in
       let j = h .1 in
@@ -105,11 +106,11 @@ unfolding encodeMessage
 message-small (message v m vs) h =
     pad-small 6 _ (asked-word 14 m (length vs) (omega arith) (h .1) (omega (arith, h .2)), (value-small v (h .0), values-small vs (h .3)))
 
-head-small : (k f m n : ℕ) → k < 8 → f < 8 → m < 8 → n < 65536 → slotHead k f m n < 4294967296
+head-small : (k f m n : ℕ) → k < 8 → f < 8 → m < 8 → n < numberLimit → slotHead k f m n < 4294967296
 unfolding slotHead
 head-small k f m n a b c d = omega arith
 
-slot-small : (n : ℕ) (o : Entity) → n < 65536 → length (encodeMethods (methodsOf o)) ≤ 1536 → EntityFits n o → Small (slot n o)
+slot-small : (n : ℕ) (o : Entity) → n < numberLimit → length (encodeMethods (methodsOf o)) ≤ bodiesSize → EntityFits n o → Small (slot n o)
 unfolding slot methodsOf
 slot-small n (object t F M) l b h = (
   head-small (tagNumber t) (length F) (countMethods M) n (tag-low t) (omega (arith, h .0 .0)) (omega (arith, h .1)) l,
@@ -125,7 +126,7 @@ slot-small n (Entity.future (some v) q) l b h =
 slot-small n (resolver k) l b h =
     (head-small 5 0 0 n (omega arith) (omega arith) (omega arith) l, (omega arith, (omega arith, (omega arith, (omega arith, (omega arith, (omega arith, (omega arith, tt))))))))
 
-slots-small : (n : ℕ) (h : List Entity) → n + length h ≤ 65536 → length (bodies h) ≤ 1536 → EntitiesFit n h → Small (slots n h)
+slots-small : (n : ℕ) (h : List Entity) → n + length h ≤ numberLimit → length (bodies h) ≤ bodiesSize → EntitiesFit n h → Small (slots n h)
 unfolding slots bodies
 slots-small n [] l b f = tt
 slots-small n (o ∷ h) l b f =
@@ -149,14 +150,14 @@ actor-small A f =
     let c3 = f .inboxCount in
     let c4 = f .waitingCount in
     let c5 = f .expressionWords in
-    both (pad 16 _) _ (pad-small 16 _ (omega arith, (omega arith, (omega arith, (omega arith, (omega arith, (omega arith, tt)))))))
-    (both (pad 512 _) _ (pad-small 512 _ (term-small (A .expr) (f .expression)))
-    (both (pad 96 _) _ (pad-small 96 _ (flat-small encodeMessage (A .inbox) (each-map MessageFits (λ m. Small (encodeMessage m)) message-small (A .inbox) (f .inboxFits))))
-    (both (pad 96 _) _ (pad-small 96 _ (flat-small encodeMessage (queues (A .made)) (each-map MessageFits (λ m. Small (encodeMessage m)) message-small (queues (A .made)) (queues-fit 0 (A .made) (f .madeFits)))))
-    (both (pad 256 _) _ (pad-small 256 _ (slots-small 0 (A .made) (omega arith) (omega arith) (f .madeFits)))
-    (both (pad 128 _) _ (pad-small 128 _ (slots-small 0 (A .copied) (omega arith) (omega arith) (f .copiedFits)))
-    (both (pad 1536 _) _ (pad-small 1536 _ (both (bodies (A .made)) (bodies (A .copied)) (bodies-small 0 (A .made) (f .madeFits)) (bodies-small 0 (A .copied) (f .copiedFits))))
-    (zeros-small 560)))))))
+    both (pad exprAt _) _ (pad-small 16 _ (omega arith, (omega arith, (omega arith, (omega arith, (omega arith, (omega arith, tt)))))))
+    (both (pad exprSize _) _ (pad-small exprSize _ (term-small (A .expr) (f .expression)))
+    (both (pad queueSize _) _ (pad-small queueSize _ (flat-small encodeMessage (A .inbox) (each-map MessageFits (λ m. Small (encodeMessage m)) message-small (A .inbox) (f .inboxFits))))
+    (both (pad queueSize _) _ (pad-small queueSize _ (flat-small encodeMessage (queues (A .made)) (each-map MessageFits (λ m. Small (encodeMessage m)) message-small (queues (A .made)) (queues-fit 0 (A .made) (f .madeFits)))))
+    (both (pad madeSize _) _ (pad-small madeSize _ (slots-small 0 (A .made) (omega arith) (omega arith) (f .madeFits)))
+    (both (pad copiedSize _) _ (pad-small copiedSize _ (slots-small 0 (A .copied) (omega arith) (omega arith) (f .copiedFits)))
+    (both (pad bodiesSize _) _ (pad-small bodiesSize _ (both (bodies (A .made)) (bodies (A .copied)) (bodies-small 0 (A .made) (f .madeFits)) (bodies-small 0 (A .copied) (f .copiedFits))))
+    (zeros-small restSize)))))))
 
 -- ---- the dictionary
 bytes-bound : (k : ℕ) (bs : List ℕ) → length bs ≤ k → Each ByteFits bs → bytesNumber bs < 256 ^ k
@@ -181,5 +182,5 @@ words-small σ h =
     let f = state-fits σ h in
     let c1 = f .actorCount in
     let c2 = f .wordCount in
-    both (pad 256 _) _ (pad-small 256 _ (omega arith, (omega arith, flat-small encodeWord (σ .words) (each-map WordFits (λ w. Small (encodeWord w)) word-small (σ .words) (f .wordsFit)))))
-    (both (pad 12800 _) _ (pad-small 12800 _ (flat-small encodeActor (σ .actors) (each-map ActorFits (λ A. Small (encodeActor A)) actor-small (σ .actors) (f .actorsFit)))) (zeros-small 3328))
+    both (pad headSize _) _ (pad-small headSize _ (omega arith, (omega arith, flat-small encodeWord (σ .words) (each-map WordFits (λ w. Small (encodeWord w)) word-small (σ .words) (f .wordsFit)))))
+    (both (pad partsSize _) _ (pad-small partsSize _ (flat-small encodeActor (σ .actors) (each-map ActorFits (λ A. Small (encodeActor A)) actor-small (σ .actors) (f .actorsFit)))) (zeros-small tailSize))

@@ -11,6 +11,7 @@ use Rattle.atlite.specs.Base.{sameBytes, if_then_else_}
 use Rattle.atlite.specs.Term.{Value, null, num, ref, Term}
 use Rattle.atlite.specs.State.{Message, message, Field, field, Tag, O, I, Entity, object, future, resolver, Actor, State}
 use Rattle.atlite.specs.ValidTest.{isState}
+use Rattle.layout.specs.Numbers.{payload, nameLimit, tagLimit, exprAt, exprSize, messageSize, inboxAt, waitingAt, madeAt, copiedAt, bodiesSize, bodiesAt, partSize, headSize}
 use Rattle.layout.specs.Reading.{cut, namesIn, Item}
 use Rattle.layout.specs.TermReading.{nameIn, methodsIn, termStack, termAt, decodeValue}
 use Rattle.layout.specs.Layout.{encode}
@@ -21,10 +22,10 @@ valuesIn (suc n) [] = []
 valuesIn (suc n) (x ∷ w) = decodeValue x ∷ valuesIn n w
 
 abbrev pub sentIn : ℕ → ℕ → List ℕ → Message
-sentIn p v w = message (decodeValue v) (nameIn (p / 128 % 4) (p % 128)) (valuesIn (p / 128 / 4) w)
+sentIn p v w = message (decodeValue v) (nameIn (p / nameLimit % tagLimit) (p % nameLimit)) (valuesIn (p / nameLimit / tagLimit) w)
 
 unfoldable pub decodeMessage : List ℕ → Message
-decodeMessage w = sentIn (getD w 0 0 % 16777216) (getD w 1 0) (drop 2 w)
+decodeMessage w = sentIn (getD w 0 0 % payload) (getD w 1 0) (drop 2 w)
 
 unfoldable pub fieldsIn : List ℕ → List Value → List Field
 fieldsIn [] vs = []
@@ -75,10 +76,10 @@ methodsPast (suc k) w s = methodsPast k (drop 8 w) (drop (slotMethods (take 8 w)
 unfoldable pub decodeActor : List ℕ → Actor
 decodeActor w = record {
   moves = getD w 0 0;
-  made = entitiesIn (getD w 1 0) 0 (drop 720 w) (termStack (take 1536 (drop 1104 w))) (cut decodeMessage 6 (getD w 4 0) (drop 624 w));
-  copied = entitiesIn (getD w 2 0) 0 (drop 976 w) (methodsPast (getD w 1 0) (drop 720 w) (termStack (take 1536 (drop 1104 w)))) [];
-  inbox = cut decodeMessage 6 (getD w 3 0) (drop 528 w);
-  expr = termAt (take 512 (drop 16 w));
+  made = entitiesIn (getD w 1 0) 0 (drop madeAt w) (termStack (take bodiesSize (drop bodiesAt w))) (cut decodeMessage messageSize (getD w 4 0) (drop waitingAt w));
+  copied = entitiesIn (getD w 2 0) 0 (drop copiedAt w) (methodsPast (getD w 1 0) (drop madeAt w) (termStack (take bodiesSize (drop bodiesAt w)))) [];
+  inbox = cut decodeMessage messageSize (getD w 3 0) (drop inboxAt w);
+  expr = termAt (take exprSize (drop exprAt w));
 }
 
 unfoldable pub bytesIn : ℕ → ℕ → List ℕ
@@ -89,7 +90,7 @@ unfoldable pub decodeWord : List ℕ → List ℕ
 decodeWord w = bytesIn 12 (getD w 0 0 + 4294967296 * (getD w 1 0 + 4294967296 * getD w 2 0))
 
 unfoldable pub decode : List ℕ → State
-decode w = record { words = cut decodeWord 3 (getD w 1 0) (drop 2 w); actors = cut decodeActor 3200 (getD w 0 0) (drop 256 w) }
+decode w = record { words = cut decodeWord 3 (getD w 1 0) (drop 2 w); actors = cut decodeActor partSize (getD w 0 0) (drop headSize w) }
 
 -- the state whose words these are
 unfoldable pub stateOf : List ℕ → Option State

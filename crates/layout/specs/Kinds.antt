@@ -15,6 +15,7 @@ use Rattle.atlite.specs.Facts.{and₂}
 use Rattle.atlite.specs.Lexicon.{Bytes}
 use Rattle.atlite.specs.Keywords.{Keywords, opWord, nullWord, thisWord, defWord, fieldWord, methodWord, Operator, naming, fn, when, operators, spelling}
 use Rattle.atlite.specs.Term.{this, Name, Op, plus, percent, get, set, call, send, written, demanded, Shape, exactly, shape, Kind}
+use Rattle.layout.specs.Numbers.{fieldKind, nameLimit, tagLimit}
 use Rattle.layout.specs.Terms.{opKind, kindNumber}
 use Rattle.layout.specs.Tables.{srcKind}
 
@@ -79,8 +80,8 @@ operandsOf (bare o n e) p = n
 operandsOf (onField c k n e) p = n
 operandsOf letIn p = 2
 operandsOf future p = 1
-operandsOf calls p = suc (p / 128 / 4)
-operandsOf sends p = suc (p / 128 / 4)
+operandsOf calls p = suc (p / nameLimit / tagLimit)
+operandsOf sends p = suc (p / nameLimit / tagLimit)
 operandsOf (literal k) p = p % 8 + p / 8
 
 -- how many of n operands become values before the word is a redex: of a let the bound part
@@ -100,7 +101,7 @@ demandOf (literal k) n = 0
 
 -- the operands of the kinds from 64 on, which only a table has: ask, fn, resolve, when, seq
 abbrev pub scriptCounts : ℕ → List ℕ
-scriptCounts p = (1 + p / 128 / 4) ∷ 1 ∷ 2 ∷ 2 ∷ 2 ∷ []
+scriptCounts p = (1 + p / nameLimit / tagLimit) ∷ 1 ∷ 2 ∷ 2 ∷ 2 ∷ []
 
 unfoldable pub scriptOperands : ℕ → ℕ → ℕ
 scriptOperands k p = getD (scriptCounts p) (k - 64) 0
@@ -126,7 +127,7 @@ rowIn k = rowOf (formIn k)
 
 -- of every word: a header leads one term
 unfoldable pub arityIn : ℕ → ℕ → ℕ
-arityIn k p = cond (ltb k 64) (operandsOf (formIn k) p) (cond (ltb k 128) (scriptOperands k p) 1)
+arityIn k p = cond (ltb k 64) (operandsOf (formIn k) p) (cond (ltb k fieldKind) (scriptOperands k p) 1)
 
 -- ---- words
 -- the kind that an operator's word begins
@@ -141,7 +142,7 @@ operatorKind (Operator.literal k) = kindNumber k
 
 -- every reserved word with a kind: an operator's is that of its word, of null, `this` and the three headers that of theirs
 unfoldable pub keywords : List (Bytes × ℕ)
-keywords = map (λ o. (spelling o, operatorKind o)) operators ++ ((nullWord, 1) ∷ (thisWord, 6) ∷ (defWord, 130) ∷ (fieldWord, 128) ∷ (methodWord, 192) ∷ [])
+keywords = map (λ o. (spelling o, operatorKind o)) operators ++ ((nullWord, 1) ∷ (thisWord, 6) ∷ (defWord, 130) ∷ (fieldWord, fieldKind) ∷ (methodWord, 192) ∷ [])
 
 unfoldable pub wordAt : List (Bytes × ℕ) → ℕ → Bytes
 wordAt [] k = []
@@ -249,7 +250,7 @@ src-row (set f) = SrcRow.isField set 10 2 _ f refl
 src-row (call m) = SrcRow.isCall m
 src-row (send m) = SrcRow.isSend m
 
-pub kind-small : (k : Kind) → kindNumber k < 128
+pub kind-small : (k : Kind) → kindNumber k < fieldKind
 unfolding kindNumber
 kind-small Kind.object = omega arith
 kind-small Kind.isolate = omega arith

@@ -12,7 +12,8 @@ use Rattle.atlite.specs.ValidTest.{isState}
 use Rattle.atlite.specs.Facts.{none-some, same-true, same-refl}
 use Rattle.atlite.specs.Valid.{IsState}
 use Rattle.invariant.specs.Tests.{is-state}
-use Rattle.layout.specs.Layout.{encode, stateWords}
+use Rattle.layout.specs.Numbers.{stateWords}
+use Rattle.layout.specs.Layout.{encode}
 use Rattle.layout.specs.Decode.{decode, stateOf}
 use Rattle.layout.specs.Whole.{encode-length, state-read}
 use Rattle.layout.specs.Holds.{state-fits}

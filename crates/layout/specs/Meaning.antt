@@ -16,9 +16,10 @@ use Rattle.atlite.specs.Listing.{listing}
 use Rattle.atlite.specs.Keywords.{operators}
 use Rattle.atlite.specs.Table.{textOf, Table, read}
 use Rattle.atlite.specs.Load.{load}
-use Rattle.layout.specs.Layout.{stateWords, encode}
+use Rattle.layout.specs.Numbers.{stateWords, tableWords}
+use Rattle.layout.specs.Layout.{encode}
 use Rattle.layout.specs.Decode.{stateOf}
-use Rattle.layout.specs.Tables.{tableWords, encodeTable}
+use Rattle.layout.specs.Tables.{encodeTable}
 use Rattle.layout.specs.TableReading.{tableOf}
 
 -- what a call returns, and the list that it writes, afterwards

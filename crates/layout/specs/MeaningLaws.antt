@@ -21,9 +21,10 @@ use Rattle.atlite.specs.Valid.{IsState}
 use Rattle.invariant.specs.Loads.{load-keeps}
 use Rattle.reading.specs.Exact.{read-exact}
 use Rattle.invariant.specs.Moves.{move-keeps, run-keeps}
-use Rattle.layout.specs.Layout.{stateWords, encode}
+use Rattle.layout.specs.Numbers.{stateWords, tableWords}
+use Rattle.layout.specs.Layout.{encode}
 use Rattle.layout.specs.Decode.{stateOf}
-use Rattle.layout.specs.Tables.{tableWords, encodeTable}
+use Rattle.layout.specs.Tables.{encodeTable}
 use Rattle.layout.specs.TableReading.{tableOf}
 use Rattle.layout.specs.Meaning.{answered, room, tableIn, stateIn, lent, readCall, printCall, loadCall, moveCall, runCall, listCall}
 use Rattle.layout.specs.Results.{done-same, bind-done, then-done}

@@ -4,10 +4,11 @@
 use Prim.Native.Nat.{ℕ, _+_, _-_, _*_}
 use mathlib.Core.List.{List, [], _∷_, _++_}
 use lib.ListN.{length, replicate}
+use Rattle.layout.specs.Numbers.{payload, nameLimit, noName}
 
 -- the word of a kind and a payload below 2^24
 abbrev pub node : ℕ → ℕ → ℕ
-node k p = p + 16777216 * k
+node k p = p + payload * k
 
 unfoldable pub zeros : ℕ → List ℕ
 zeros n = replicate n 0
@@ -24,14 +25,14 @@ flat g (x ∷ xs) = g x ++ flat g xs
 -- names in seven bits each, the first lowest
 unfoldable pub names : List ℕ → ℕ
 names [] = 0
-names (x ∷ xs) = x + 128 * names xs
+names (x ∷ xs) = x + nameLimit * names xs
 
 -- three names, an empty place filled with 127, which is no name
 unfoldable pub places : List ℕ → ℕ
-places [] = 127 + 128 * (127 + 128 * 127)
-places (x ∷ []) = x + 128 * (127 + 128 * 127)
-places (x ∷ y ∷ []) = x + 128 * (y + 128 * 127)
-places (x ∷ y ∷ z ∷ zs) = x + 128 * (y + 128 * z)
+places [] = noName + nameLimit * (noName + nameLimit * noName)
+places (x ∷ []) = x + nameLimit * (noName + nameLimit * noName)
+places (x ∷ y ∷ []) = x + nameLimit * (y + nameLimit * noName)
+places (x ∷ y ∷ z ∷ zs) = x + nameLimit * (y + nameLimit * z)
 
 unfoldable pub Pack : Unit {0}
 unfolding zeros pad flat names places

@@ -7,6 +7,7 @@ use native.Mathlib.Nat.{add-mul-mod-self-left, add-mul-div-left, mod-eq-of-lt, d
 use native.Mathlib.Omega.{arith}
 use lib.ListN.{length, take, drop, length-append, length-replicate}
 use lib.Seq.{take-at, drop-at}
+use Rattle.layout.specs.Numbers.{nameLimit, noName, tagLimit, taggedLimit, placesLimit, namesLimit}
 use Rattle.layout.specs.Pack.{zeros, pad, flat, names, places}
 use Rattle.layout.specs.Reading.{cut, namesIn}
 
@@ -18,20 +19,20 @@ pub pack-high : (m a b : ℕ) → a < m → (a + m * b) / m ≡ b
 pack-high m a b h = let p : 0 < m = omega arith in add-mul-div-left a b p ∙ rw (div-eq-of-lt h) (omega arith)
 
 -- three digits, as a message's name, its tag and a count stand
-module _ (x t n : ℕ) (h : x < 128) (l : t < 4) where
-  nested : x + 128 * t + 512 * n ≡ x + 128 * (t + 4 * n)
+module _ (x t n : ℕ) (h : x < nameLimit) (l : t < 4) where
+  nested : x + nameLimit * t + taggedLimit * n ≡ x + nameLimit * (t + 4 * n)
   nested = omega arith
 
-  pub first-digit : (x + 128 * t + 512 * n) % 128 ≡ x
-  first-digit = ap (λ w. w % 128) nested ∙ pack-low 128 x (t + 4 * n) h
+  pub first-digit : (x + nameLimit * t + taggedLimit * n) % nameLimit ≡ x
+  first-digit = ap (λ w. w % nameLimit) nested ∙ pack-low nameLimit x (t + 4 * n) h
 
-  others : (x + 128 * t + 512 * n) / 128 ≡ t + 4 * n
-  others = ap (λ w. w / 128) nested ∙ pack-high 128 x (t + 4 * n) h
+  others : (x + nameLimit * t + taggedLimit * n) / nameLimit ≡ t + 4 * n
+  others = ap (λ w. w / nameLimit) nested ∙ pack-high nameLimit x (t + 4 * n) h
 
-  pub second-digit : (x + 128 * t + 512 * n) / 128 % 4 ≡ t
+  pub second-digit : (x + nameLimit * t + taggedLimit * n) / nameLimit % tagLimit ≡ t
   second-digit = ap (λ w. w % 4) others ∙ pack-low 4 t n l
 
-  pub third-digit : (x + 128 * t + 512 * n) / 128 / 4 ≡ n
+  pub third-digit : (x + nameLimit * t + taggedLimit * n) / nameLimit / tagLimit ≡ n
   third-digit = ap (λ w. w / 4) others ∙ pack-high 4 t n l
 
 -- ---- regions
@@ -87,15 +88,15 @@ cut-flat g f s (x ∷ xs) r h =
 -- ---- names
 -- 127 is no name
 abbrev pub NameFits : ℕ → Type 0
-NameFits x = x < 127
+NameFits x = x < noName
 
-name-in : (n x r : ℕ) (xs : List ℕ) → NameFits x → namesIn n r ≡ xs → namesIn (suc n) (x + 128 * r) ≡ x ∷ xs
+name-in : (n x r : ℕ) (xs : List ℕ) → NameFits x → namesIn n r ≡ xs → namesIn (suc n) (x + nameLimit * r) ≡ x ∷ xs
 unfolding namesIn
-name-in n x r xs h e = let l : x < 128 = omega (arith, h) in rw (pack-low 128 x r l, pack-high 128 x r l, e)
+name-in n x r xs h e = let l : x < nameLimit = omega (arith, h) in rw (pack-low nameLimit x r l, pack-high nameLimit x r l, e)
 
 name-last : (x : ℕ) → NameFits x → namesIn 1 x ≡ x ∷ []
 unfolding namesIn
-name-last x h = let l : x < 128 = omega (arith, h) in rw (mod-eq-of-lt l)
+name-last x h = let l : x < nameLimit = omega (arith, h) in rw (mod-eq-of-lt l)
 
 pub names-back : (xs : List ℕ) → Each NameFits xs → namesIn (length xs) (names xs) ≡ xs
 unfolding names namesIn
@@ -105,13 +106,13 @@ names-back (x ∷ xs) h = name-in (length xs) x (names xs) xs (h .0) (names-back
 pub places-back : (xs : List ℕ) → length xs ≤ 3 → Each NameFits xs → namesIn (length xs) (places xs) ≡ xs
 unfolding places namesIn
 places-back [] l h = refl
-places-back (x ∷ []) l h = name-in 0 x (127 + 128 * 127) [] (h .0) refl
-places-back (x ∷ y ∷ []) l h = name-in 1 x _ (y ∷ []) (h .0) (name-in 0 y 127 [] (h .1 .0) refl)
+places-back (x ∷ []) l h = name-in 0 x (noName + nameLimit * noName) [] (h .0) refl
+places-back (x ∷ y ∷ []) l h = name-in 1 x _ (y ∷ []) (h .0) (name-in 0 y noName [] (h .1 .0) refl)
 places-back (x ∷ y ∷ z ∷ []) l h = name-in 2 x _ (y ∷ z ∷ []) (h .0) (name-in 1 y _ (z ∷ []) (h .1 .0) (name-last z (h .1 .1 .0)))
 places-back (x ∷ y ∷ z ∷ u ∷ xs) l h = absurd (omega arith)
 
 -- three names in 21 bits, empty places too
-pub places-small : (xs : List ℕ) → length xs ≤ 3 → Each NameFits xs → places xs < 2097152
+pub places-small : (xs : List ℕ) → length xs ≤ 3 → Each NameFits xs → places xs < placesLimit
 unfolding places
 places-small [] l h = omega arith
 places-small (x ∷ []) l h = omega (arith, h .0)
@@ -120,7 +121,7 @@ places-small (x ∷ y ∷ z ∷ []) l h = omega (arith, h .0, h .1 .0, h .1 .1 .
 places-small (x ∷ y ∷ z ∷ u ∷ xs) l h = absurd (omega arith)
 
 -- four names in 28 bits
-pub names-small : (xs : List ℕ) → length xs ≤ 4 → Each NameFits xs → names xs < 268435456
+pub names-small : (xs : List ℕ) → length xs ≤ 4 → Each NameFits xs → names xs < namesLimit
 unfolding names
 names-small [] l h = omega arith
 names-small (x ∷ []) l h = omega (arith, h .0)

@@ -3,7 +3,7 @@
 -- A reader of a position answers with what it got and where that ends, or with nothing. What a word asks for behind it (`Head`) is
 -- found from the word alone, so that all arithmetic is in `headAt`, `fieldAt` and `methodAt`, and the recursion has one case for
 -- each number of parts and none for a kind. Only terms take fuel; lists go by their count.
-use Prim.Native.Nat.{ℕ, zero, suc, _+_, _-_, _/_, _%_}
+use Prim.Native.Nat.{ℕ, zero, suc, _+_, _-_, _*_, _/_, _%_}
 use mathlib.Core.Bool.{Bool, true, false, cond}
 use mathlib.Core.List.{List, [], _∷_}
 use mathlib.Core.Option.{Option, some}
@@ -11,6 +11,7 @@ use lib.ListN.{length, getD}
 use lib.Dec.{eqb, ltb, leb}
 use Rattle.atlite.specs.Term.{Value, null, num, Name, plain, twoWay, resolve, register, Op, call, send, written, Kind, Term, val, var, op, letIn, future, literal, Terms, nil, cons, Inits, noField, Methods, noMethod, method}
 use Rattle.atlite.specs.State.{Message, message}
+use Rattle.layout.specs.Numbers.{payload, fieldKind, nameLimit, noName, tagLimit, taggedLimit, secondPlace, thirdPlace}
 use Rattle.layout.specs.Kinds.{Form, nothing, nullValue, number, reference, variable, bare, onField, calls, sends, formIn}
 use Rattle.layout.specs.TermReading.{refIn}
 
@@ -50,11 +51,11 @@ unfoldable pub valueIn : ℕ → ℕ → Option Value
 valueIn k p = getD (valueForms p) k Option.none
 
 unfoldable pub valueAt : ℕ → Option Value
-valueAt x = valueIn (x / 16777216) (x % 16777216)
+valueAt x = valueIn (x / payload) (x % payload)
 
 -- by tag and name
 abbrev pub nameForms : ℕ → List (Option Name)
-nameForms x = given (ltb x 127) (some (plain x)) ∷ given (ltb x 127) (some (twoWay x)) ∷ given (eqb x 0) (some resolve) ∷ given (eqb x 0) (some register) ∷ []
+nameForms x = given (ltb x noName) (some (plain x)) ∷ given (ltb x noName) (some (twoWay x)) ∷ given (eqb x 0) (some resolve) ∷ given (eqb x 0) (some register) ∷ []
 
 unfoldable pub nameOf : ℕ → ℕ → Option Name
 nameOf t x = getD (nameForms x) t Option.none
@@ -80,7 +81,7 @@ askHead f n Option.none = noHead
 askHead f n (some m) = many (f m) (suc n)
 
 abbrev pub askIn : (Name → Op Name) → ℕ → Head
-askIn f p = only (ltb (p / 128 / 4) 8) (askHead f (p / 128 / 4) (nameOf (p / 128 % 4) (p % 128)))
+askIn f p = only (ltb (p / nameLimit / tagLimit) 8) (askHead f (p / nameLimit / tagLimit) (nameOf (p / nameLimit % tagLimit) (p % nameLimit)))
 
 abbrev pub literalHead : Kind → ℕ → Head
 literalHead k p = only (ltb (p / 8) 8) (parts k (p % 8) (p / 8))
@@ -90,11 +91,11 @@ headOf nothing p = noHead
 headOf nullValue p = valueHead (valueIn 1 p)
 headOf number p = valueHead (valueIn 2 p)
 headOf reference p = valueHead (valueIn 3 p)
-headOf variable p = only (ltb p 127) (leaf (var p))
+headOf variable p = only (ltb p noName) (leaf (var p))
 headOf (bare o n e) p = only (eqb p 0) (many (written o) n)
-headOf (onField c k n e) p = only (ltb p 127) (many (written (c p)) n)
-headOf Form.letIn p = only (ltb p 127) (binary (λ e d. letIn p e d))
-headOf Form.future p = only (ltb (p % 128) 127) (only (ltb (p / 128) 127) (unary (λ e. future (p % 128) (p / 128) e)))
+headOf (onField c k n e) p = only (ltb p noName) (many (written (c p)) n)
+headOf Form.letIn p = only (ltb p noName) (binary (λ e d. letIn p e d))
+headOf Form.future p = only (ltb (p % nameLimit) noName) (only (ltb (p / nameLimit) noName) (unary (λ e. future (p % nameLimit) (p / nameLimit) e)))
 headOf calls p = askIn call p
 headOf sends p = askIn send p
 headOf (Form.literal k) p = literalHead k p
@@ -103,25 +104,25 @@ unfoldable pub headIn : ℕ → ℕ → Head
 headIn k p = headOf (formIn k) p
 
 unfoldable pub headAt : ℕ → Head
-headAt x = headIn (x / 16777216) (x % 16777216)
+headAt x = headIn (x / payload) (x % payload)
 
 unfoldable pub fieldAt : ℕ → Option ℕ
-fieldAt x = given (eqb (x / 16777216) 128) (given (ltb (x % 16777216) 127) (some (x % 16777216)))
+fieldAt x = given (eqb (x / payload) fieldKind) (given (ltb (x % payload) noName) (some (x % payload)))
 
 -- the first n of three names, where the places behind them are empty
 abbrev pub placeForms : ℕ → ℕ → ℕ → List (Option (List ℕ))
 placeForms x y z =
-    given (eqb x 127) (given (eqb y 127) (given (eqb z 127) (some [])))
-    ∷ given (ltb x 127) (given (eqb y 127) (given (eqb z 127) (some (x ∷ []))))
-    ∷ given (ltb x 127) (given (ltb y 127) (given (eqb z 127) (some (x ∷ y ∷ []))))
-    ∷ given (ltb x 127) (given (ltb y 127) (given (ltb z 127) (some (x ∷ y ∷ z ∷ []))))
+    given (eqb x noName) (given (eqb y noName) (given (eqb z noName) (some [])))
+    ∷ given (ltb x noName) (given (eqb y noName) (given (eqb z noName) (some (x ∷ []))))
+    ∷ given (ltb x noName) (given (ltb y noName) (given (eqb z noName) (some (x ∷ y ∷ []))))
+    ∷ given (ltb x noName) (given (ltb y noName) (given (ltb z noName) (some (x ∷ y ∷ z ∷ []))))
     ∷ []
 
 unfoldable pub placesIn : ℕ → ℕ → ℕ → ℕ → Option (List ℕ)
 placesIn n x y z = getD (placeForms x y z) n Option.none
 
 unfoldable pub paramsAt : ℕ → Option (List ℕ)
-paramsAt x = placesIn (x / 128 % 4) (x / 512 % 128) (x / 65536 % 128) (x / 8388608 % 128)
+paramsAt x = placesIn (x / nameLimit % tagLimit) (x / taggedLimit % nameLimit) (x / secondPlace % nameLimit) (x / thirdPlace % nameLimit)
 
 abbrev pub named : ℕ → Option (List ℕ) → Option (ℕ × List ℕ)
 named m Option.none = Option.none
@@ -129,7 +130,7 @@ named m (some xs) = some (m, xs)
 
 -- a method's name and its parameters
 unfoldable pub methodAt : ℕ → Option (ℕ × List ℕ)
-methodAt x = given (eqb (x / 1073741824) 3) (given (ltb (x % 128) 127) (named (x % 128) (paramsAt x)))
+methodAt x = given (eqb (x / (64 * payload)) 3) (given (ltb (x % nameLimit) noName) (named (x % nameLimit) (paramsAt x)))
 
 -- ---- terms, by a reader of the terms inside
 unfoldable pub termsBy : (ℕ → Got Term) → ℕ → ℕ → Got Terms
@@ -185,12 +186,12 @@ zerosAt w (suc c) at = elim (eqb (getD w at 0) 0) [ true ↦ zerosAt w c (at + 1
 unfoldable pub parseMessage : List ℕ → ℕ → Got Message
 parseMessage w at =
     let x = getD w at 0 in
-    let n = x % 16777216 / 128 / 4 in
+    let n = x % payload / nameLimit / tagLimit in
     sure (leb (at + 6) (length w))
-    (sure (eqb (x / 16777216) 14)
+    (sure (eqb (x / payload) 14)
     (sure (ltb n 5)
     (sure (zerosAt w (4 - n) (at + 2 + n))
-    (behind (nameOf (x % 16777216 / 128 % 4) (x % 16777216 % 128)) (λ m.
+    (behind (nameOf (x % payload / nameLimit % tagLimit) (x % payload % nameLimit)) (λ m.
     behind (valueAt (getD w (at + 1) 0)) (λ v.
     behind (valuesAt w n (at + 2)) (λ vs. got (message v m vs) (at + 6))))))))
 

@@ -11,6 +11,7 @@ use native.Mathlib.Omega.{arith}
 use borrow.Author.Tests.{ltb-true, eqb-true, lt-ltb}
 use lib.Dec.{eqb, ltb}
 use Rattle.atlite.specs.Term.{Value, null, num, ref, Name, Op, call, send, written, shape, sending, Kind, Term, val, var, op, letIn, future, literal, Terms, Inits, Methods, countTerms}
+use Rattle.layout.specs.Numbers.{payload, nameLimit, noName, tagLimit, taggedLimit, numberLimit}
 use Rattle.layout.specs.Pack.{node}
 use Rattle.layout.specs.Terms.{countInits, countMethods, seriesBit, encodeValue, tagged, asked, arguments, opKind, opPayload, kindNumber, encodeTerm, encodeTerms, encodeInits, encodeMethods}
 use Rattle.layout.specs.Kinds.{Kinds, Bare, Fields, Form, nothing, nullValue, number, reference, variable, bare, onField, calls, sends, formKind, formIn, by-kind, form-none, Row, isBare, isField, isCall, isSend, row}
@@ -50,7 +51,7 @@ reads-value x none h = tt
 reads-value x (some v) h = (h .0, ap (λ y. y ∷ []) (h .1))
 
 -- a call or a send, by what its payload comes to
-pub asked-sum : (p t : ℕ) → t ≡ p % 128 + 128 * (p / 128 % 4) → t + 512 * (p / 128 / 4) ≡ p
+pub asked-sum : (p t : ℕ) → t ≡ p % nameLimit + nameLimit * (p / nameLimit % tagLimit) → t + taggedLimit * (p / nameLimit / tagLimit) ≡ p
 asked-sum p t e = omega arith
 
 module _ (k : ℕ) (f : Name → Op Name) where
@@ -58,14 +59,14 @@ module _ (k : ℕ) (f : Name → Op Name) where
   abbrev Asking : Type 0
   Asking = (m : Name) (n : ℕ) (es : Terms) → NameOk m → n < 8 → FitsAll es → countTerms es ≡ suc n → Is (op (f m) es) (node k (asked m n) ∷ encodeTerms es)
 
-  reads-name : Asking → (p : ℕ) (o : Option Name) → p / 128 / 4 < 8 → Holding (NameWord (p / 128 % 4) (p % 128)) o → Reads (node k p) (askHead f (p / 128 / 4) o)
+  reads-name : Asking → (p : ℕ) (o : Option Name) → p / nameLimit / tagLimit < 8 → Holding (NameWord (p / nameLimit % tagLimit) (p % nameLimit)) o → Reads (node k p) (askHead f (p / nameLimit / tagLimit) o)
   reads-name g p none l h = tt
   reads-name g p (some m) l h = λ es j c.
-      let r = g m (p / 128 / 4) es (h .0) l j c in
+      let r = g m (p / nameLimit / tagLimit) es (h .0) l j c in
       (r .0, r .1 ∙ ap (λ n. node k n ∷ encodeTerms es) (asked-sum p (tagged m) (h .1)))
 
   reads-ask : Asking → (p : ℕ) → Reads (node k p) (askIn f p)
-  reads-ask g p = reads-lt (node k p) (p / 128 / 4) 8 _ (λ l. reads-name g p (nameOf (p / 128 % 4) (p % 128)) l (name-word (p / 128 % 4) (p % 128)))
+  reads-ask g p = reads-lt (node k p) (p / nameLimit / tagLimit) 8 _ (λ l. reads-name g p (nameOf (p / nameLimit % tagLimit) (p % nameLimit)) l (name-word (p / nameLimit % tagLimit) (p % nameLimit)))
 
 reads-literal : (k : Kind) (p : ℕ) → Reads (node (kindNumber k) p) (literalHead k p)
 unfolding Fits encodeTerm
@@ -74,15 +75,15 @@ reads-literal k p = reads-lt _ (p / 8) 8 (parts k (p % 8) (p / 8)) (λ l fs ms i
     ((omega arith, omega arith, i, j), ap (λ n. node (kindNumber k) n ∷ (encodeInits fs ++ encodeMethods ms)) q))
 
 -- ---- by the table of kinds
-module _ (p : ℕ) (h : p < 16777216) where
+module _ (p : ℕ) (h : p < payload) where
   bare-reads : (o : Op ℕ) (n : ℕ) → Bare o n → Reads (node (opKind (written o)) p) (only (eqb p 0) (many (written o) n))
   unfolding Fits encodeTerm
   bare-reads o n e = reads-eq _ p 0 (many (written o) n) (λ z es i c.
       ((transp (λ s. ShapeFits s (countTerms es)) (sym (e .1)) c, i), ap (λ q. node (opKind (written o)) q ∷ encodeTerms es) (bare-payload o n (countTerms es) e ∙ sym z)))
 
-  field-reads : (c : ℕ → Op ℕ) (k n : ℕ) → Fields c k n → Reads (node k p) (only (ltb p 127) (many (written (c p)) n))
+  field-reads : (c : ℕ → Op ℕ) (k n : ℕ) → Fields c k n → Reads (node k p) (only (ltb p noName) (many (written (c p)) n))
   unfolding Fits encodeTerm
-  field-reads c k n e = reads-lt _ p 127 (many (written (c p)) n) (λ l es i d. (
+  field-reads c k n e = reads-lt _ p noName (many (written (c p)) n) (λ l es i d. (
     (transp (λ s. ShapeFits s (countTerms es)) (sym (e .0 p .1)) (l, d), i),
     ap₂ (λ j q. node j q ∷ encodeTerms es) (e .0 p .2) (field-payload c k n e p (countTerms es)),
   ))
@@ -93,12 +94,12 @@ module _ (p : ℕ) (h : p < 16777216) where
   form-reads nullValue = reads-value (node 1 p) (valueIn 1 p) (value-in 1 p h)
   form-reads number = reads-value (node 2 p) (valueIn 2 p) (value-in 2 p h)
   form-reads reference = reads-value (node 3 p) (valueIn 3 p) (value-in 3 p h)
-  form-reads variable = reads-lt (node 6 p) p 127 (leaf (var p)) (λ l. (l, refl))
+  form-reads variable = reads-lt (node 6 p) p noName (leaf (var p)) (λ l. (l, refl))
   form-reads (bare o n e) = bare-reads o n e
   form-reads (onField c k n e) = field-reads c k n e
-  form-reads Form.letIn = reads-lt (node 11 p) p 127 (binary (λ e d. letIn p e d)) (λ l e d i j. ((l, i, j), refl))
+  form-reads Form.letIn = reads-lt (node 11 p) p noName (binary (λ e d. letIn p e d)) (λ l e d i j. ((l, i, j), refl))
   form-reads Form.future =
-      reads-lt (node 12 p) (p % 128) 127 _ (λ l. reads-lt (node 12 p) (p / 128) 127 (unary (λ e. future (p % 128) (p / 128) e)) (λ b e i. ((l, b, i), ap (λ n. node 12 n ∷ encodeTerm e) (mod-add-div p 128))))
+      reads-lt (node 12 p) (p % nameLimit) noName _ (λ l. reads-lt (node 12 p) (p / nameLimit) noName (unary (λ e. future (p % nameLimit) (p / nameLimit) e)) (λ b e i. ((l, b, i), ap (λ n. node 12 n ∷ encodeTerm e) (mod-add-div p nameLimit))))
   form-reads calls = reads-ask 13 call (λ m n es a b i c. (rw c ((a, b), i), rw c refl)) p
   form-reads sends = reads-ask 14 send (λ m n es a b i c. (rw c ((a, b), i), rw c refl)) p
   form-reads (Form.literal k) = reads-literal k p
@@ -106,17 +107,17 @@ module _ (p : ℕ) (h : p < 16777216) where
 pub head-reads : (x : ℕ) → Reads x (headAt x)
 unfolding headAt headIn headOf
 head-reads x =
-    let p = x % 16777216 in
-    rw (word-node x) at (by-kind (λ k r. Reads (node k p) (headOf r p)) (λ k. tt) (form-reads p (payload-small x)) (x / 16777216))
+    let p = x % payload in
+    rw (word-node x) at (by-kind (λ k r. Reads (node k p) (headOf r p)) (λ k. tt) (form-reads p (payload-small x)) (x / payload))
 
 -- a kind that was found, and the kinds past the table
-pub head-kind : (x k : ℕ) → x / 16777216 ≡ k → headAt x ≡ headIn k (x % 16777216)
+pub head-kind : (x k : ℕ) → x / payload ≡ k → headAt x ≡ headIn k (x % payload)
 unfolding headAt
-head-kind x k e = ap (λ i. headIn i (x % 16777216)) e
+head-kind x k e = ap (λ i. headIn i (x % payload)) e
 
-pub head-none : (x : ℕ) → 32 ≤ x / 16777216 → headAt x ≡ noHead
+pub head-none : (x : ℕ) → 32 ≤ x / payload → headAt x ≡ noHead
 unfolding headAt headIn headOf
-head-none x h = ap (λ r. headOf r (x % 16777216)) (form-none (x / 16777216) (omega arith))
+head-none x h = ap (λ r. headOf r (x % payload)) (form-none (x / payload) (omega arith))
 
 -- ---- and every term's first word has its head
 pub head-value : (v : Value) → ValueFits v → headAt (encodeValue v) ≡ leaf (val v)
@@ -124,28 +125,28 @@ unfolding headAt Kinds headIn headOf valueIn encodeValue
 head-value null h = refl
 head-value (num n) h = of-node headIn 2 n h
 head-value (ref a s n) h =
-    let p = n + 65536 * (seriesBit s + 2 * a) in
-    let l : p < 16777216 = omega (arith, h, bit s) in
+    let p = n + numberLimit * (seriesBit s + 2 * a) in
+    let l : p < payload = omega (arith, h, bit s) in
     of-node headIn 3 p l ∙ ap (λ v. leaf (val v)) (ref-back a s n h)
 
 module _ (x : ℕ) (h : NameFits x) where
   -- a name is a payload
-  small : x < 16777216
+  small : x < payload
   small = omega (arith, h)
 
   pub head-var : headAt (node 6 x) ≡ leaf (var x)
   unfolding headAt Kinds headIn headOf
-  head-var = of-node headIn 6 x small ∙ rw (lt-ltb x 127 h)
+  head-var = of-node headIn 6 x small ∙ rw (lt-ltb x noName h)
 
   pub head-let : headAt (node 11 x) ≡ binary (λ e d. letIn x e d)
   unfolding headAt Kinds headIn headOf
-  head-let = of-node headIn 11 x small ∙ rw (lt-ltb x 127 h)
+  head-let = of-node headIn 11 x small ∙ rw (lt-ltb x noName h)
 
-  pub head-future : (y : ℕ) → NameFits y → headAt (node 12 (x + 128 * y)) ≡ unary (λ e. future x y e)
+  pub head-future : (y : ℕ) → NameFits y → headAt (node 12 (x + nameLimit * y)) ≡ unary (λ e. future x y e)
   unfolding headAt Kinds headIn headOf
   head-future y g =
-      let l : x < 128 = omega (arith, h) in
-      of-node headIn 12 (x + 128 * y) (omega (arith, h, g)) ∙ rw (pack-low 128 x y l, pack-high 128 x y l, lt-ltb x 127 h, lt-ltb y 127 g)
+      let l : x < nameLimit = omega (arith, h) in
+      of-node headIn 12 (x + nameLimit * y) (omega (arith, h, g)) ∙ rw (pack-low nameLimit x y l, pack-high nameLimit x y l, lt-ltb x noName h, lt-ltb y noName g)
 
 ask-in : (f : Name → Op Name) (m : Name) (n : ℕ) → NameOk m → n < 8 → askIn f (asked m n) ≡ many (f m) (suc n)
 ask-in f m n h l = rw (asked-count m n h, name-read m n h, lt-ltb n 8 l)
@@ -157,7 +158,7 @@ ask-head f m (suc n) h = ask-in f m n (h .0) (h .1)
 row-head : (o : Op Name) → Row o → (n : ℕ) → OpFits o n → headIn (opKind o) (opPayload o n) ≡ many o n
 unfolding Kinds headIn headOf
 row-head _ (isBare o m e f w) n h = rw (f, bare-payload o m n e, bare-count o m n e h)
-row-head _ (isField c k m e x f w) n h = let (l, i) = field-count c k m e x n h in rw (e .0 x .2, f, field-payload c k m e x n, lt-ltb x 127 l, i)
+row-head _ (isField c k m e x f w) n h = let (l, i) = field-count c k m e x n h in rw (e .0 x .2, f, field-payload c k m e x n, lt-ltb x noName l, i)
 row-head _ (isCall m) n h = ask-head call m n h
 row-head _ (isSend m) n h = ask-head send m n h
 

@@ -12,6 +12,7 @@ use lib.Dec.{eqb, ltb, leb}
 use lib.ListN.{length, drop, getD, length-append, length-drop}
 use Rattle.atlite.specs.Term.{Value, Name}
 use Rattle.atlite.specs.State.{Message, message}
+use Rattle.layout.specs.Numbers.{payload, nameLimit, tagLimit, taggedLimit}
 use Rattle.layout.specs.Pack.{node, zeros, pad}
 use Rattle.layout.specs.PackLaws.{pack-low, pack-high, pad-front, Each}
 use Rattle.layout.specs.Terms.{encodeValue, tagged, asked}
@@ -71,13 +72,13 @@ ended-sure R true g h = h refl
 ended-sure R false g h = tt
 
 -- the first word, by its kind and its payload
-first-word : (x n : ℕ) (m : Name) → x / 16777216 ≡ 14 → tagged m ≡ x % 16777216 % 128 + 128 * (x % 16777216 / 128 % 4) → n ≡ x % 16777216 / 128 / 4 → node 14 (asked m n) ≡ x
-first-word x n m k t c = ap (λ p. node 14 (tagged m + 512 * p)) c ∙ ap (node 14) (asked-sum (x % 16777216) (tagged m) t) ∙ ap (λ k. node k (x % 16777216)) (sym k) ∙ word-node x
+first-word : (x n : ℕ) (m : Name) → x / payload ≡ 14 → tagged m ≡ x % payload % nameLimit + nameLimit * (x % payload / nameLimit % tagLimit) → n ≡ x % payload / nameLimit / tagLimit → node 14 (asked m n) ≡ x
+first-word x n m k t c = ap (λ p. node 14 (tagged m + taggedLimit * p)) c ∙ ap (node 14) (asked-sum (x % payload) (tagged m) t) ∙ ap (λ k. node k (x % payload)) (sym k) ∙ word-node x
 
 module _ (w : List ℕ) (at : ℕ) where
   -- how many arguments the first word says
   abbrev count : ℕ
-  count = getD w at 0 % 16777216 / 128 / 4
+  count = getD w at 0 % payload / nameLimit / tagLimit
 
   four-spans : (x n : ℕ) (v : Value) (m : Name) (vs : List Value) → n < 5 → node 14 (asked m (length vs)) ≡ x → Spans w at (at + 1) (x ∷ []) → Spans w (at + 1) (at + 2) (encodeValue v ∷ [])
       → ValuesAt w n (at + 2) vs → Spans w (at + 2 + n) (at + 2 + n + (4 - n)) (zeros (4 - n)) → Spans w at (at + 6) (encodeMessage (message v m vs))
@@ -88,8 +89,8 @@ module _ (w : List ℕ) (at : ℕ) where
       let b = span-join w at (at + 2) (at + 2 + n) (x ∷ encodeValue v ∷ []) (valueWords vs) a (u .2) in
       rw (c, d) (span-end w at (at + 2 + n + (4 - n)) (at + 6) (x ∷ encodeValue v ∷ (valueWords vs ++ zeros (4 - n))) (span-join w at (at + 2 + n) (at + 2 + n + (4 - n)) (x ∷ encodeValue v ∷ valueWords vs) (zeros (4 - n)) b z) (omega arith))
 
-  stands : (v : Value) (m : Name) (vs : List Value) → at + 6 ≤ length w → getD w at 0 / 16777216 ≡ 14 → count < 5 → zerosAt w (4 - count) (at + 2 + count) ≡ true
-      → NameWord (getD w at 0 % 16777216 / 128 % 4) (getD w at 0 % 16777216 % 128) m → ValueWord (getD w (at + 1) 0) v → ValuesAt w count (at + 2) vs → MessageAt w at (message v m vs) (at + 6)
+  stands : (v : Value) (m : Name) (vs : List Value) → at + 6 ≤ length w → getD w at 0 / payload ≡ 14 → count < 5 → zerosAt w (4 - count) (at + 2 + count) ≡ true
+      → NameWord (getD w at 0 % payload / nameLimit % tagLimit) (getD w at 0 % payload % nameLimit) m → ValueWord (getD w (at + 1) 0) v → ValuesAt w count (at + 2) vs → MessageAt w at (message v m vs) (at + 6)
   stands v m vs l k c z i j u =
       let x = getD w at 0 in
       let n = count in
@@ -102,16 +103,16 @@ module _ (w : List ℕ) (at : ℕ) where
   unfolding parseMessage
   message-ended =
       let x = getD w at 0 in
-      let p = x % 16777216 in
+      let p = x % payload in
       let n = count in
       ended-sure (MessageAt w at) (leb (at + 6) (length w)) _ (λ l.
-      ended-sure (MessageAt w at) (eqb (x / 16777216) 14) _ (λ k.
+      ended-sure (MessageAt w at) (eqb (x / payload) 14) _ (λ k.
       ended-sure (MessageAt w at) (ltb n 5) _ (λ c.
       ended-sure (MessageAt w at) (zerosAt w (4 - n) (at + 2 + n)) _ (λ z.
-      ended-behind (NameWord (p / 128 % 4) (p % 128)) (MessageAt w at) (nameOf (p / 128 % 4) (p % 128)) _ (name-word (p / 128 % 4) (p % 128)) (λ m i.
+      ended-behind (NameWord (p / nameLimit % tagLimit) (p % nameLimit)) (MessageAt w at) (nameOf (p / nameLimit % tagLimit) (p % nameLimit)) _ (name-word (p / nameLimit % tagLimit) (p % nameLimit)) (λ m i.
       ended-behind (ValueWord (getD w (at + 1) 0)) (MessageAt w at) (valueAt (getD w (at + 1) 0)) _ (value-word (getD w (at + 1) 0)) (λ v j.
       ended-behind (ValuesAt w n (at + 2)) (MessageAt w at) (valuesAt w n (at + 2)) _ (values-at w n (at + 2) (omega (arith, leb-true (at + 6) (length w) l, ltb-true n 5 c))) (λ vs u.
-      stands v m vs (leb-true (at + 6) (length w) l) (eqb-true (x / 16777216) 14 k) (ltb-true n 5 c) z i j u)))))))
+      stands v m vs (leb-true (at + 6) (length w) l) (eqb-true (x / payload) 14 k) (ltb-true n 5 c) z i j u)))))))
 
 pub message-sound : (w : List ℕ) (at : ℕ) (m : Message) (i : ℕ) → parseMessage w at ≡ got m i → MessageAt w at m i
 message-sound w at m i = ended (MessageAt w at) (parseMessage w at) m i (message-ended w at)
@@ -135,7 +136,7 @@ message-complete (message v m vs) w at r h e =
     let n = length vs in
     let x = node 14 (asked m n) in
     let k : n < 5 = omega (arith, h .2) in
-    let a : asked m n < 16777216 = omega (arith, asked-small m n (h .1) (omega arith)) in
+    let a : asked m n < payload = omega (arith, asked-small m n (h .1) (omega arith)) in
     let c : 6 - suc (suc (length (valueWords vs))) ≡ 4 - n = omega (arith, length-values vs) in
     let z = zeros (4 - n) ++ r in
     let d : drop at w ≡ x ∷ encodeValue v ∷ (valueWords vs ++ z) = e ∙ pad-front 6 (x ∷ encodeValue v ∷ valueWords vs) r ∙ ap (λ i. x ∷ encodeValue v ∷ (valueWords vs ++ (zeros i ++ r))) c in
@@ -148,8 +149,8 @@ message-complete (message v m vs) w at r h e =
       le-leb (at + 6) (length w) b,
       drop-first w at x _ d,
       drop-first w (at + 1) (encodeValue v) _ d1,
-      pack-high 16777216 (asked m n) 14 a,
-      pack-low 16777216 (asked m n) 14 a,
+      pack-high payload (asked m n) 14 a,
+      pack-low payload (asked m n) 14 a,
       asked-count m n (h .1),
       lt-ltb n 5 k,
       zeros-read (4 - n) w (at + 2 + n) r d3,

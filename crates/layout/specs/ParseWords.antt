@@ -12,6 +12,7 @@ use borrow.Author.Tests.{ltb-true, eqb-true, lt-ltb}
 use lib.Dec.{eqb, ltb}
 use lib.ListN.{length, getD}
 use Rattle.atlite.specs.Term.{Value, null, num, ref, Name, plain, twoWay, resolve, register}
+use Rattle.layout.specs.Numbers.{payload, fieldKind, nameLimit, noName, tagLimit, taggedLimit, secondPlace, thirdPlace, placesLimit, numberLimit}
 use Rattle.layout.specs.Pack.{node, places}
 use Rattle.layout.specs.Terms.{seriesBit, encodeValue, tagged, asked, fieldHeader, methodHeader}
 use Rattle.layout.specs.TermReading.{seriesIn, refIn}
@@ -51,29 +52,29 @@ under-eq : {A : Type 0} (P : A → Type 0) (m n : ℕ) (o : Option A) → (m ≡
 under-eq P m n o h = under P (eqb m n) o (λ t. h (eqb-true m n t))
 
 -- ---- kind and payload
-pub word-node : (x : ℕ) → node (x / 16777216) (x % 16777216) ≡ x
+pub word-node : (x : ℕ) → node (x / payload) (x % payload) ≡ x
 word-node x = omega arith
 
-pub payload-small : (x : ℕ) → x % 16777216 < 16777216
+pub payload-small : (x : ℕ) → x % payload < payload
 payload-small x = omega arith
 
-pub of-node : {A : Type 0} (f : ℕ → ℕ → A) (k p : ℕ) → p < 16777216 → f (node k p / 16777216) (node k p % 16777216) ≡ f k p
-of-node f k p h = rw (pack-low 16777216 p k h, pack-high 16777216 p k h)
+pub of-node : {A : Type 0} (f : ℕ → ℕ → A) (k p : ℕ) → p < payload → f (node k p / payload) (node k p % payload) ≡ f k p
+of-node f k p h = rw (pack-low payload p k h, pack-high payload p k h)
 
 -- ---- values
 abbrev pub ValueWord : ℕ → Value → Type 0
 ValueWord x v = ValueFits v × (encodeValue v ≡ x)
 
-ref-word : (p : ℕ) → p < 16777216 → ValueWord (node 3 p) (refIn p)
+ref-word : (p : ℕ) → p < payload → ValueWord (node 3 p) (refIn p)
 unfolding encodeValue seriesBit
-ref-word p h = ((omega arith, omega arith), go (p / 65536 % 2) refl)
+ref-word p h = ((omega arith, omega arith), go (p / numberLimit % 2) refl)
   where
-    go : (b : ℕ) → p / 65536 % 2 ≡ b → p % 65536 + 65536 * (seriesBit (seriesIn b) + 2 * (p / 65536 / 2)) + 16777216 * 3 ≡ p + 16777216 * 3
+    go : (b : ℕ) → p / numberLimit % 2 ≡ b → p % numberLimit + numberLimit * (seriesBit (seriesIn b) + 2 * (p / numberLimit / 2)) + payload * 3 ≡ p + payload * 3
     go zero e = omega arith
     go (suc zero) e = omega arith
     go (suc (suc b)) e = absurd (omega arith)
 
-pub value-in : (k p : ℕ) → p < 16777216 → Holding (ValueWord (node k p)) (valueIn k p)
+pub value-in : (k p : ℕ) → p < payload → Holding (ValueWord (node k p)) (valueIn k p)
 unfolding valueIn encodeValue
 value-in k p h =
     along-getD (λ k. Holding (ValueWord (node k p))) none (λ k. tt) (valueForms p)
@@ -81,7 +82,7 @@ value-in k p h =
 
 pub value-word : (x : ℕ) → Holding (ValueWord x) (valueAt x)
 unfolding valueAt
-value-word x = rw (word-node x) at (value-in (x / 16777216) (x % 16777216) (payload-small x))
+value-word x = rw (word-node x) at (value-in (x / payload) (x % payload) (payload-small x))
 
 pub value-sound : (x : ℕ) (v : Value) → valueAt x ≡ some v → ValueFits v × (encodeValue v ≡ x)
 value-sound x v e = holding (ValueWord x) (valueAt x) v (value-word x) e
@@ -91,8 +92,8 @@ unfolding valueAt valueIn encodeValue
 value-read null h = refl
 value-read (num n) h = of-node valueIn 2 n h
 value-read (ref a s n) h =
-    let p = n + 65536 * (seriesBit s + 2 * a) in
-    let l : p < 16777216 = omega (arith, h, bit s) in
+    let p = n + numberLimit * (seriesBit s + 2 * a) in
+    let l : p < payload = omega (arith, h, bit s) in
     of-node valueIn 3 p l ∙ ap some (ref-back a s n h)
 
 pub value-iff : (x : ℕ) (v : Value) → (valueAt x ≡ some v) ↔ (ValueFits v × (encodeValue v ≡ x))
@@ -100,15 +101,15 @@ value-iff x v = (value-sound x v, λ h. ap valueAt (sym (h .1)) ∙ value-read v
 
 -- ---- a message's name and its count
 abbrev pub NameWord : ℕ → ℕ → Name → Type 0
-NameWord t x m = NameOk m × (tagged m ≡ x + 128 * t)
+NameWord t x m = NameOk m × (tagged m ≡ x + nameLimit * t)
 
 pub name-word : (t x : ℕ) → Holding (NameWord t x) (nameOf t x)
 unfolding nameOf tagged
 name-word t x =
     along-getD (λ t. Holding (NameWord t x)) none (λ k. tt) (nameForms x) (
-      under-lt (NameWord 0 x) x 127 (some (plain x)) (λ l. (l, refl)),
+      under-lt (NameWord 0 x) x noName (some (plain x)) (λ l. (l, refl)),
       (
-        under-lt (NameWord 1 x) x 127 (some (twoWay x)) (λ l. (l, refl)),
+        under-lt (NameWord 1 x) x noName (some (twoWay x)) (λ l. (l, refl)),
         (
           under-eq (NameWord 2 x) x 0 (some resolve) (λ e. (tt, omega arith)),
           (under-eq (NameWord 3 x) x 0 (some register) (λ e. (tt, omega arith)), tt),
@@ -117,36 +118,36 @@ name-word t x =
     )
     t
 
-pub name-read : (m : Name) (n : ℕ) → NameOk m → nameOf (asked m n / 128 % 4) (asked m n % 128) ≡ some m
+pub name-read : (m : Name) (n : ℕ) → NameOk m → nameOf (asked m n / nameLimit % tagLimit) (asked m n % nameLimit) ≡ some m
 unfolding nameOf tagged
-name-read (plain m) n h = let l : m < 128 = omega (arith, h) in rw (second-digit m 0 n l (omega arith), first-digit m 0 n l (omega arith), lt-ltb m 127 h)
-name-read (twoWay m) n h = let l : m < 128 = omega (arith, h) in rw (second-digit m 1 n l (omega arith), first-digit m 1 n l (omega arith), lt-ltb m 127 h)
+name-read (plain m) n h = let l : m < nameLimit = omega (arith, h) in rw (second-digit m 0 n l (omega arith), first-digit m 0 n l (omega arith), lt-ltb m noName h)
+name-read (twoWay m) n h = let l : m < nameLimit = omega (arith, h) in rw (second-digit m 1 n l (omega arith), first-digit m 1 n l (omega arith), lt-ltb m noName h)
 name-read resolve n h = rw (second-digit 0 2 n (omega arith) (omega arith), first-digit 0 2 n (omega arith) (omega arith))
 name-read register n h = rw (second-digit 0 3 n (omega arith) (omega arith), first-digit 0 3 n (omega arith) (omega arith))
 
 -- ---- headers
 pub field-word : (x : ℕ) → Holding (λ f. NameFits f × (fieldHeader f ≡ x)) (fieldAt x)
 unfolding fieldAt
-field-word x = under-eq _ (x / 16777216) 128 _ (λ e. under-lt _ (x % 16777216) 127 (some (x % 16777216)) (λ l. (l, omega arith)))
+field-word x = under-eq _ (x / payload) fieldKind _ (λ e. under-lt _ (x % payload) noName (some (x % payload)) (λ l. (l, omega arith)))
 
 pub field-read : (f : ℕ) → NameFits f → fieldAt (fieldHeader f) ≡ some f
 unfolding fieldAt
-field-read f h = let l : f < 16777216 = omega (arith, h) in rw (pack-low 16777216 f 128 l, pack-high 16777216 f 128 l, lt-ltb f 127 h)
+field-read f h = let l : f < payload = omega (arith, h) in rw (pack-low payload f fieldKind l, pack-high payload f fieldKind l, lt-ltb f noName h)
 
 -- the three places, each of which is a name or empty
 abbrev pub PlacesAre : ℕ → ℕ → ℕ → ℕ → List ℕ → Type 0
-PlacesAre n x y z xs = Each NameFits xs × (length xs ≤ 3) × (length xs ≡ n) × (places xs ≡ x + 128 * (y + 128 * z))
+PlacesAre n x y z xs = Each NameFits xs × (length xs ≤ 3) × (length xs ≡ n) × (places xs ≡ x + nameLimit * (y + nameLimit * z))
 
 places-word : (n x y z : ℕ) → Holding (PlacesAre n x y z) (placesIn n x y z)
 unfolding placesIn places
 places-word n x y z =
     along-getD (λ n. Holding (PlacesAre n x y z)) none (λ k. tt) (placeForms x y z) (
-      under-eq _ x 127 _ (λ i. under-eq _ y 127 _ (λ j. under-eq _ z 127 (some []) (λ k. (tt, omega arith, refl, omega arith)))),
+      under-eq _ x noName _ (λ i. under-eq _ y noName _ (λ j. under-eq _ z noName (some []) (λ k. (tt, omega arith, refl, omega arith)))),
       (
-        under-lt _ x 127 _ (λ i. under-eq _ y 127 _ (λ j. under-eq _ z 127 (some (x ∷ [])) (λ k. ((i, tt), omega arith, refl, omega arith)))),
+        under-lt _ x noName _ (λ i. under-eq _ y noName _ (λ j. under-eq _ z noName (some (x ∷ [])) (λ k. ((i, tt), omega arith, refl, omega arith)))),
         (
-          under-lt _ x 127 _ (λ i. under-lt _ y 127 _ (λ j. under-eq _ z 127 (some (x ∷ y ∷ [])) (λ k. ((i, (j, tt)), omega arith, refl, omega arith)))),
-          (under-lt _ x 127 _ (λ i. under-lt _ y 127 _ (λ j. under-lt _ z 127 (some (x ∷ y ∷ z ∷ [])) (λ k. ((i, (j, (k, tt))), omega arith, refl, omega arith)))), tt),
+          under-lt _ x noName _ (λ i. under-lt _ y noName _ (λ j. under-eq _ z noName (some (x ∷ y ∷ [])) (λ k. ((i, (j, tt)), omega arith, refl, omega arith)))),
+          (under-lt _ x noName _ (λ i. under-lt _ y noName _ (λ j. under-lt _ z noName (some (x ∷ y ∷ z ∷ [])) (λ k. ((i, (j, (k, tt))), omega arith, refl, omega arith)))), tt),
         ),
       ),
     )
@@ -156,21 +157,21 @@ places-word n x y z =
 abbrev pub MethodIs : ℕ → List ℕ → ℕ → Type 0
 MethodIs m xs x = NameFits m × Each NameFits xs × (length xs ≤ 3) × (methodHeader m xs ≡ x)
 
-digits-sum : (x q r s t a b c d e : ℕ) → a + 128 * q ≡ x → b + 4 * r ≡ q → c + 128 * s ≡ r → d + 128 * t ≡ s → e + 128 * 3 ≡ t
-    → a + 128 * (b + 4 * (c + 128 * (d + 128 * e) + 2097152 * 3)) ≡ x
+digits-sum : (x q r s t a b c d e : ℕ) → a + nameLimit * q ≡ x → b + 4 * r ≡ q → c + nameLimit * s ≡ r → d + nameLimit * t ≡ s → e + nameLimit * 3 ≡ t
+    → a + nameLimit * (b + 4 * (c + nameLimit * (d + nameLimit * e) + placesLimit * 3)) ≡ x
 digits-sum x q r s t a b c d e h i j k l = omega arith
 
 -- a digit, and the quotient behind it
 digit : (x m n : ℕ) → x / m % n + n * (x / (m * n)) ≡ x / m
 digit x m n = ap (λ q. x / m % n + n * q) (sym (div-div-eq-div-mul x m n)) ∙ mod-add-div (x / m) n
 
-digits : (x : ℕ) → x / 1073741824 ≡ 3 → x % 128 + 128 * (x / 128 % 4 + 4 * (x / 512 % 128 + 128 * (x / 65536 % 128 + 128 * (x / 8388608 % 128)) + 2097152 * 3)) ≡ x
+digits : (x : ℕ) → x / (64 * payload) ≡ 3 → x % nameLimit + nameLimit * (x / nameLimit % tagLimit + 4 * (x / taggedLimit % nameLimit + nameLimit * (x / secondPlace % nameLimit + nameLimit * (x / thirdPlace % nameLimit)) + placesLimit * 3)) ≡ x
 digits x h =
-    digits-sum x (x / 128) (x / 512) (x / 65536) (x / 8388608) (x % 128) (x / 128 % 4) (x / 512 % 128) (x / 65536 % 128) (x / 8388608 % 128)
-    (mod-add-div x 128) (digit x 128 4) (digit x 512 128) (digit x 65536 128) (ap (λ q. x / 8388608 % 128 + 128 * q) (sym h) ∙ digit x 8388608 128)
+    digits-sum x (x / nameLimit) (x / taggedLimit) (x / numberLimit) (x / thirdPlace) (x % nameLimit) (x / nameLimit % tagLimit) (x / taggedLimit % nameLimit) (x / secondPlace % nameLimit) (x / thirdPlace % nameLimit)
+    (mod-add-div x nameLimit) (digit x nameLimit 4) (digit x taggedLimit nameLimit) (digit x secondPlace nameLimit) (ap (λ q. x / thirdPlace % nameLimit + nameLimit * q) (sym h) ∙ digit x thirdPlace nameLimit)
 
-named-word : (x : ℕ) (o : Option (List ℕ)) → x / 1073741824 ≡ 3 → x % 128 < 127 → Holding (PlacesAre (x / 128 % 4) (x / 512 % 128) (x / 65536 % 128) (x / 8388608 % 128)) o
-    → Holding (λ h. MethodIs (h .0) (h .1) x) (named (x % 128) o)
+named-word : (x : ℕ) (o : Option (List ℕ)) → x / (64 * payload) ≡ 3 → x % nameLimit < noName → Holding (PlacesAre (x / nameLimit % tagLimit) (x / taggedLimit % nameLimit) (x / secondPlace % nameLimit) (x / thirdPlace % nameLimit)) o
+    → Holding (λ h. MethodIs (h .0) (h .1) x) (named (x % nameLimit) o)
 unfolding methodHeader
 named-word x none e l g = tt
 named-word x (some xs) e l g = (l, g .0, g .1, rw (g .2, g .3) (digits x e))
@@ -178,8 +179,8 @@ named-word x (some xs) e l g = (l, g .0, g .1, rw (g .2, g .3) (digits x e))
 pub method-word : (x : ℕ) → Holding (λ h. MethodIs (h .0) (h .1) x) (methodAt x)
 unfolding methodAt paramsAt
 method-word x =
-    under-eq _ (x / 1073741824) 3 _ (λ e. under-lt _ (x % 128) 127 (named (x % 128) (paramsAt x)) (λ l.
-    named-word x (paramsAt x) e l (places-word (x / 128 % 4) (x / 512 % 128) (x / 65536 % 128) (x / 8388608 % 128))))
+    under-eq _ (x / (64 * payload)) 3 _ (λ e. under-lt _ (x % nameLimit) noName (named (x % nameLimit) (paramsAt x)) (λ l.
+    named-word x (paramsAt x) e l (places-word (x / nameLimit % tagLimit) (x / taggedLimit % nameLimit) (x / secondPlace % nameLimit) (x / thirdPlace % nameLimit))))
 
 -- the next quotient
 past-digit : (x m n a b : ℕ) → a < n → x / m ≡ a + n * b → x / (m * n) ≡ b
@@ -189,35 +190,35 @@ next-digit : (x m n a b : ℕ) → a < n → x / m ≡ a + n * b → x / m % n �
 next-digit x m n a b h e = ap (λ q. q % n) e ∙ pack-low n a b h
 
 -- three digits between the number of parameters and the two top bits
-places-digits : (m n x y z : ℕ) → m < 128 → n < 4 → x < 128 → y < 128 → z < 128 → paramsAt (m + 128 * (n + 4 * (x + 128 * (y + 128 * z) + 2097152 * 3))) ≡ placesIn n x y z
+places-digits : (m n x y z : ℕ) → m < nameLimit → n < 4 → x < nameLimit → y < nameLimit → z < nameLimit → paramsAt (m + nameLimit * (n + 4 * (x + nameLimit * (y + nameLimit * z) + placesLimit * 3))) ≡ placesIn n x y z
 unfolding paramsAt
 places-digits m n x y z h i a b c =
-    let w = m + 128 * (n + 4 * (x + 128 * (y + 128 * z) + 2097152 * 3)) in
-    let p : x + 128 * (y + 128 * z) + 2097152 * 3 ≡ x + 128 * (y + 128 * (z + 128 * 3)) = omega arith in
-    let q : w / 128 ≡ n + 4 * (x + 128 * (y + 128 * z) + 2097152 * 3) = pack-high 128 m _ h in
-    let r : w / 512 ≡ x + 128 * (y + 128 * (z + 128 * 3)) = past-digit w 128 4 n _ i q ∙ p in
-    let s : w / 65536 ≡ y + 128 * (z + 128 * 3) = past-digit w 512 128 x _ a r in
-    let t : w / 8388608 ≡ z + 128 * 3 = past-digit w 65536 128 y _ b s in
-    rw (next-digit w 128 4 n _ i q, next-digit w 512 128 x _ a r, next-digit w 65536 128 y _ b s, next-digit w 8388608 128 z 3 c t)
+    let w = m + nameLimit * (n + 4 * (x + nameLimit * (y + nameLimit * z) + placesLimit * 3)) in
+    let p : x + nameLimit * (y + nameLimit * z) + placesLimit * 3 ≡ x + nameLimit * (y + nameLimit * (z + nameLimit * 3)) = omega arith in
+    let q : w / nameLimit ≡ n + 4 * (x + nameLimit * (y + nameLimit * z) + placesLimit * 3) = pack-high nameLimit m _ h in
+    let r : w / taggedLimit ≡ x + nameLimit * (y + nameLimit * (z + nameLimit * 3)) = past-digit w nameLimit 4 n _ i q ∙ p in
+    let s : w / numberLimit ≡ y + nameLimit * (z + nameLimit * 3) = past-digit w taggedLimit nameLimit x _ a r in
+    let t : w / thirdPlace ≡ z + nameLimit * 3 = past-digit w secondPlace nameLimit y _ b s in
+    rw (next-digit w nameLimit 4 n _ i q, next-digit w taggedLimit nameLimit x _ a r, next-digit w secondPlace nameLimit y _ b s, next-digit w thirdPlace nameLimit z 3 c t)
 
 params-read : (m : ℕ) (xs : List ℕ) → NameFits m → Each NameFits xs → length xs ≤ 3 → paramsAt (methodHeader m xs) ≡ some xs
 unfolding methodHeader places placesIn
-params-read m [] h g l = places-digits m 0 127 127 127 (omega (arith, h)) (omega arith) (omega arith) (omega arith) (omega arith)
+params-read m [] h g l = places-digits m 0 noName noName noName (omega (arith, h)) (omega arith) (omega arith) (omega arith) (omega arith)
 params-read m (x ∷ []) h g l =
-    places-digits m 1 x 127 127 (omega (arith, h)) (omega arith) (omega (arith, g .0)) (omega arith) (omega arith) ∙ rw (lt-ltb x 127 (g .0))
+    places-digits m 1 x noName noName (omega (arith, h)) (omega arith) (omega (arith, g .0)) (omega arith) (omega arith) ∙ rw (lt-ltb x noName (g .0))
 params-read m (x ∷ y ∷ []) h g l =
-    places-digits m 2 x y 127 (omega (arith, h)) (omega arith) (omega (arith, g .0)) (omega (arith, g .1 .0)) (omega arith) ∙ rw (lt-ltb x 127 (g .0), lt-ltb y 127 (g .1 .0))
+    places-digits m 2 x y noName (omega (arith, h)) (omega arith) (omega (arith, g .0)) (omega (arith, g .1 .0)) (omega arith) ∙ rw (lt-ltb x noName (g .0), lt-ltb y noName (g .1 .0))
 params-read m (x ∷ y ∷ z ∷ []) h g l =
     places-digits m 3 x y z (omega (arith, h)) (omega arith) (omega (arith, g .0)) (omega (arith, g .1 .0)) (omega (arith, g .1 .1 .0))
-    ∙ rw (lt-ltb x 127 (g .0), lt-ltb y 127 (g .1 .0), lt-ltb z 127 (g .1 .1 .0))
+    ∙ rw (lt-ltb x noName (g .0), lt-ltb y noName (g .1 .0), lt-ltb z noName (g .1 .1 .0))
 params-read m (x ∷ y ∷ z ∷ u ∷ xs) h g l = absurd (omega arith)
 
 pub method-read : (m : ℕ) (xs : List ℕ) → NameFits m → Each NameFits xs → length xs ≤ 3 → methodAt (methodHeader m xs) ≡ some (m, xs)
 unfolding methodAt methodHeader
 method-read m xs h g l =
-    let w = m + 128 * (length xs + 4 * (places xs + 2097152 * 3)) in
+    let w = m + nameLimit * (length xs + 4 * (places xs + placesLimit * 3)) in
     let s = places-small xs l g in
-    let a : w / 1073741824 ≡ 3 = omega arith in
-    let b : w % 128 ≡ m = omega (arith, h) in
+    let a : w / (64 * payload) ≡ 3 = omega arith in
+    let b : w % nameLimit ≡ m = omega (arith, h) in
     let c : paramsAt w ≡ some xs = params-read m xs h g l in
-    rw (a, b, c, lt-ltb m 127 h)
+    rw (a, b, c, lt-ltb m noName h)

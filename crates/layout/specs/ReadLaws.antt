@@ -6,55 +6,56 @@ use mathlib.Core.List.{List, [], _∷_, _++_, append-assoc}
 use native.Mathlib.Omega.{arith}
 use borrow.Author.Tests.{lt-ltb, le-ltb}
 use lib.ListN.{length, drop}
+use Rattle.layout.specs.Numbers.{payload, fieldKind, header, nameLimit, placesLimit}
 use Rattle.layout.specs.Pack.{node, zeros, places}
 use Rattle.layout.specs.Terms.{fieldHeader, methodHeader}
 use Rattle.layout.specs.Reading.{Item, alone, aField, aDefinition, aMethod, first, push, stack}
 use Rattle.layout.specs.PackLaws.{pack-low, pack-high, Each, NameFits, places-back}
 
 module _ {E : Type 0} (none : E) (form : ℕ → ℕ → List (Item E) → List (Item E)) where
-  pub push-node : (k p : ℕ) (s : List (Item E)) → p < 16777216 → k < 128 → push none form (node k p) s ≡ form k p s
+  pub push-node : (k p : ℕ) (s : List (Item E)) → p < payload → k < fieldKind → push none form (node k p) s ≡ form k p s
   unfolding push
   push-node k p s h l =
-      let b : p + 16777216 * k < 2147483648 = omega arith in
-      rw (lt-ltb (p + 16777216 * k) 2147483648 b, pack-low 16777216 p k h, pack-high 16777216 p k h)
+      let b : p + payload * k < header = omega arith in
+      rw (lt-ltb (p + payload * k) header b, pack-low payload p k h, pack-high payload p k h)
 
   pub push-field : (f : ℕ) (s : List (Item E)) → NameFits f → push none form (fieldHeader f) s ≡ aField f (first none s) ∷ drop 1 s
   unfolding push
   push-field f s h =
-      let w = f + 16777216 * 128 in
-      let b : 2147483648 ≤ w = omega arith in
-      let c : w < 2181038080 = omega (arith, h) in
-      let d : w - 2147483648 ≡ f = omega arith in
-      rw (le-ltb w 2147483648 b, lt-ltb w 2181038080 c, d)
+      let w = f + payload * fieldKind in
+      let b : header ≤ w = omega arith in
+      let c : w < (130 * payload) = omega (arith, h) in
+      let d : w - header ≡ f = omega arith in
+      rw (le-ltb w header b, lt-ltb w (130 * payload) c, d)
 
   pub push-definition : (x : ℕ) (s : List (Item E)) → NameFits x → push none form (node 130 x) s ≡ aDefinition x (first none s) ∷ drop 1 s
   unfolding push
   push-definition x s h =
-      let w = x + 16777216 * 130 in
-      let b : 2147483648 ≤ w = omega arith in
-      let c : 2181038080 ≤ w = omega arith in
-      let d : w < 3221225472 = omega (arith, h) in
-      let e : w - 2181038080 ≡ x = omega arith in
-      rw (le-ltb w 2147483648 b, le-ltb w 2181038080 c, lt-ltb w 3221225472 d, e)
+      let w = x + payload * 130 in
+      let b : header ≤ w = omega arith in
+      let c : (130 * payload) ≤ w = omega arith in
+      let d : w < (192 * payload) = omega (arith, h) in
+      let e : w - 130 * payload ≡ x = omega arith in
+      rw (le-ltb w header b, le-ltb w (130 * payload) c, lt-ltb w (192 * payload) d, e)
 
   pub push-method : (m : ℕ) (xs : List ℕ) (s : List (Item E)) → NameFits m → Each NameFits xs → length xs ≤ 3 → push none form (methodHeader m xs) s ≡ aMethod m xs (first none s) ∷ drop 1 s
   unfolding push methodHeader
   push-method m xs s h g l =
-      let w = m + 128 * (length xs + 4 * (places xs + 2097152 * 3)) in
+      let w = m + nameLimit * (length xs + 4 * (places xs + placesLimit * 3)) in
       let q = length xs + 4 * places xs in
-      let b : 2147483648 ≤ w = omega arith in
-      let c : 2181038080 ≤ w = omega arith in
-      let d : 3221225472 ≤ w = omega arith in
-      let e : w - 3221225472 ≡ m + 128 * q = omega arith in
-      let i : m < 128 = omega (arith, h) in
+      let b : header ≤ w = omega arith in
+      let c : (130 * payload) ≤ w = omega arith in
+      let d : (192 * payload) ≤ w = omega arith in
+      let e : w - 192 * payload ≡ m + nameLimit * q = omega arith in
+      let i : m < nameLimit = omega (arith, h) in
       let n : length xs < 4 = omega arith in
       rw (
-        le-ltb w 2147483648 b,
-        le-ltb w 2181038080 c,
-        le-ltb w 3221225472 d,
+        le-ltb w header b,
+        le-ltb w (130 * payload) c,
+        le-ltb w (192 * payload) d,
         e,
-        pack-low 128 m q i,
-        pack-high 128 m q i,
+        pack-low nameLimit m q i,
+        pack-high nameLimit m q i,
         pack-low 4 (length xs) (places xs) n,
         pack-high 4 (length xs) (places xs) n,
         places-back xs l g,
@@ -72,7 +73,7 @@ module _ {E : Type 0} (none : E) (form : ℕ → ℕ → List (Item E) → List 
   stack-headed w a b r i e y f p q = ap (push none form w) (stack-two a b r _ _ p (ap (λ s. alone e ∷ s) q)) ∙ f (y ++ stack none form r)
 
   -- a node with two ranges of words behind it: any two lists, or two expressions
-  module _ (k p : ℕ) (h : k < 128) (l : p < 16777216) where
+  module _ (k p : ℕ) (h : k < fieldKind) (l : p < payload) where
     pub stack-lists : (a b r : List ℕ) (x y t : List (Item E)) → stack none form (a ++ (b ++ r)) ≡ x ++ stack none form (b ++ r)
         → stack none form (b ++ r) ≡ y ++ stack none form r → form k p (x ++ (y ++ stack none form r)) ≡ t → stack none form (node k p ∷ ((a ++ b) ++ r)) ≡ t
     unfolding stack

@@ -3,11 +3,12 @@
 -- Words are read from the last to the first onto a stack of what was read, so that reading needs no bound and no case of
 -- failure: words that are no expression give something, whose words they are not. States and tables differ only in what a
 -- node of each kind makes of the stack (`form`).
-use Prim.Native.Nat.{ℕ, zero, suc, _-_, _/_, _%_}
+use Prim.Native.Nat.{ℕ, zero, suc, _-_, _*_, _/_, _%_}
 use mathlib.Core.Bool.{cond}
 use mathlib.Core.List.{List, [], _∷_}
 use lib.ListN.{take, drop}
 use lib.Dec.{ltb}
+use Rattle.layout.specs.Numbers.{payload, header, nameLimit, tagLimit}
 
 -- n elements of s words each
 unfoldable pub cut : {A : Type 0} → (List ℕ → A) → ℕ → ℕ → List ℕ → List A
@@ -17,7 +18,7 @@ cut f s (suc n) w = f (take s w) ∷ cut f s n (drop s w)
 -- n names of seven bits
 unfoldable pub namesIn : ℕ → ℕ → List ℕ
 namesIn zero w = []
-namesIn (suc n) w = (w % 128) ∷ namesIn n (w / 128)
+namesIn (suc n) w = (w % nameLimit) ∷ namesIn n (w / nameLimit)
 
 -- an expression alone, or behind a header
 pub data Item (E : Type 0) : Type 0 where
@@ -60,14 +61,14 @@ module _ {E : Type 0} (none : E) where
   first (i ∷ s) = exprIn i
 
   abbrev pub headed : ℕ → List (Item E) → List (Item E)
-  headed p s = aMethod (p % 128) (namesIn (p / 128 % 4) (p / 128 / 4)) (first s) ∷ drop 1 s
+  headed p s = aMethod (p % nameLimit) (namesIn (p / nameLimit % tagLimit) (p / nameLimit / tagLimit)) (first s) ∷ drop 1 s
 
   module _ (form : ℕ → ℕ → List (Item E) → List (Item E)) where
     unfoldable pub push : ℕ → List (Item E) → List (Item E)
     push w s =
-        cond (ltb w 2147483648) (form (w / 16777216) (w % 16777216) s)
-        (cond (ltb w 2181038080) (aField (w - 2147483648) (first s) ∷ drop 1 s)
-        (cond (ltb w 3221225472) (aDefinition (w - 2181038080) (first s) ∷ drop 1 s) (headed (w - 3221225472) s)))
+        cond (ltb w header) (form (w / payload) (w % payload) s)
+        (cond (ltb w (130 * payload)) (aField (w - header) (first s) ∷ drop 1 s)
+        (cond (ltb w (192 * payload)) (aDefinition (w - 130 * payload) (first s) ∷ drop 1 s) (headed (w - 192 * payload) s)))
 
     unfoldable pub stack : List ℕ → List (Item E)
     stack [] = []

@@ -1,6 +1,6 @@
 -- The worked example K1 through the six calls, computed, and each cause of a lent list in its place: so no law of the calls is about
 -- nothing. Assumes nothing.
-use Prim.Native.Nat.{ℕ}
+use Prim.Native.Nat.{ℕ, _+_, _-_}
 use mathlib.Core.Bool.{true}
 use mathlib.Core.List.{List, [], _∷_}
 use mathlib.Core.Path.{_≡_, refl}
@@ -10,6 +10,7 @@ use Rattle.atlite.specs.Loops.{All}
 use Rattle.atlite.specs.Examples.{Example, row, K1, entries}
 use Rattle.atlite.specs.Valid.{Valid}
 use Rattle.atlite.specs.ValidTest.{ValidTest}
+use Rattle.layout.specs.Numbers.{stateWords, tableWords}
 use Rattle.layout.specs.Pack.{Pack}
 use Rattle.layout.specs.Terms.{Terms·all}
 use Rattle.layout.specs.Layout.{Layout}
@@ -26,10 +27,10 @@ Everything = tt
 
 -- ---- the calls, one after another, on buffers longer than published
 unfoldable pub readText : Example → List ℕ
-readText k = readCall (bytes (k .script)) (replicate 1281 7) .buffer
+readText k = readCall (bytes (k .script)) (replicate (tableWords + 1) 7) .buffer
 
 unfoldable pub loaded : Example → List ℕ
-loaded k = loadCall (readText k) (replicate 16385 7) .buffer
+loaded k = loadCall (readText k) (replicate (stateWords + 1) 7) .buffer
 
 unfoldable pub played : Example → List ℕ
 played k = runCall (loaded k) (entries (bytes (k .schedule))) .buffer
@@ -47,17 +48,17 @@ unfoldable causeOf : {A : Type 0} → Reply A → ℕ
 causeOf R = elim (R .result) [ done a ↦ 0 | refused n ↦ n ]
 
 -- short lists before all else, then words that are nothing, then the call's own causes, and last a text that does not fit
-causes : causeOf (readCall [] (replicate 1279 0))
-    ∷ causeOf (readCall [] (replicate 1280 0))
-    ∷ causeOf (readCall (bytes (K1 .script)) (replicate 1280 0))
-    ∷ causeOf (printCall (replicate 1280 0) [])
+causes : causeOf (readCall [] (replicate (tableWords - 1) 0))
+    ∷ causeOf (readCall [] (replicate tableWords 0))
+    ∷ causeOf (readCall (bytes (K1 .script)) (replicate tableWords 0))
+    ∷ causeOf (printCall (replicate tableWords 0) [])
     ∷ causeOf (printCall (readText K1) [])
-    ∷ causeOf (loadCall (replicate 1279 0) [])
-    ∷ causeOf (loadCall (replicate 1280 0) [])
-    ∷ causeOf (loadCall (replicate 1280 0) (replicate 16384 0))
-    ∷ causeOf (loadCall (readText K1) (replicate 16384 0))
-    ∷ causeOf (moveCall (replicate 16383 0) 0)
-    ∷ causeOf (moveCall (replicate 16384 0) 0)
+    ∷ causeOf (loadCall (replicate (tableWords - 1) 0) [])
+    ∷ causeOf (loadCall (replicate tableWords 0) [])
+    ∷ causeOf (loadCall (replicate tableWords 0) (replicate stateWords 0))
+    ∷ causeOf (loadCall (readText K1) (replicate stateWords 0))
+    ∷ causeOf (moveCall (replicate (stateWords - 1) 0) 0)
+    ∷ causeOf (moveCall (replicate stateWords 0) 0)
     ∷ causeOf (moveCall (loaded K1) 1)
     ∷ causeOf (listCall (loaded K1) [])
     ∷ [] ≡ 6 ∷ 1 ∷ 0 ∷ 7 ∷ 6 ∷ 6 ∷ 6 ∷ 7 ∷ 0 ∷ 6 ∷ 7 ∷ 8 ∷ 6 ∷ []

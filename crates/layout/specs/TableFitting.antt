@@ -11,6 +11,7 @@ use Rattle.atlite.specs.Table.{GrammaticalLines, IsTable, Table}
 use Rattle.atlite.specs.Script.{seq, Src, num, null, var, op, letIn, future, fn, when, literal, Srcs, nil, cons, SrcFields, noField, field, SrcMethods, noMethod, method, Line, expression, define, size, sizeAll, sizeFields, sizeMethods, join}
 use Rattle.atlite.specs.Facts.{refused-done}
 use Rattle.reading.specs.Exact.{table-count, table-words}
+use Rattle.layout.specs.Numbers.{exprSize, linesSize}
 use Rattle.layout.specs.Pack.{flat}
 use Rattle.layout.specs.Tables.{encodeSrc, encodeSrcs, encodeFields, encodeSrcMethods, encodeLine}
 use Rattle.layout.specs.PackLaws.{Each}
@@ -72,8 +73,8 @@ pub record TableFits (T : Table) : Type 0 where
   pub wordCount : length (T .words) ≤ 64
   pub wordsFit : Each WordFits (T .words)
   pub linesFit : GrammaticalLines (length (T .words)) (T .lines)
-  pub lineCount : length (T .lines) ≤ 512
-  pub lineWords : length (flat encodeLine (T .lines)) ≤ 1024
+  pub lineCount : length (T .lines) ≤ exprSize
+  pub lineWords : length (flat encodeLine (T .lines)) ≤ linesSize
 
 pub table-fits : (T : Table) → IsTable T → TableFits T
 table-fits T h =

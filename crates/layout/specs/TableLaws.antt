@@ -14,9 +14,10 @@ use Rattle.atlite.specs.Table.{textOf, IsTable, Table, read}
 use Rattle.atlite.specs.Lexicon.{Bytes}
 use Rattle.atlite.specs.Facts.{none-some, same-true, same-refl}
 use Rattle.reading.specs.Exact.{read-exact}
+use Rattle.layout.specs.Numbers.{linesAt, linesSize, tableWords}
 use Rattle.layout.specs.Pack.{zeros, pad, flat}
 use Rattle.layout.specs.Layout.{encodeWord}
-use Rattle.layout.specs.Tables.{encodeLine, tableWords, encodeTable}
+use Rattle.layout.specs.Tables.{encodeLine, encodeTable}
 use Rattle.layout.specs.Reading.{cut}
 use Rattle.layout.specs.Decode.{decodeWord}
 use Rattle.layout.specs.TableReading.{srcStack, lineIn, decodeTable, sameTable, tableOf}
@@ -39,9 +40,9 @@ module _ (T : Table) (f : TableFits T) where
   encode-length : length (encodeTable T) ≡ tableWords
   unfolding encodeTable
   encode-length =
-      let a = length-append (pad 256 topWords) (pad 1024 lineWordsOf) in
-      let b = length-pad 256 topWords head-words in
-      let c = length-pad 1024 lineWordsOf (f .lineWords) in
+      let a = length-append (pad linesAt topWords) (pad linesSize lineWordsOf) in
+      let b = length-pad linesAt topWords head-words in
+      let c = length-pad linesSize lineWordsOf (f .lineWords) in
       omega arith
 
   module _ (w : List ℕ) (is : w ≡ encodeTable T) where
@@ -49,18 +50,18 @@ module _ (T : Table) (f : TableFits T) where
     unfolding encodeTable pad
     count = ap (λ l. getD l 0 0) is
 
-    words-at : drop 3 w ≡ flat encodeWord (T .words) ++ (zeros (256 - length topWords) ++ pad 1024 lineWordsOf)
+    words-at : drop 3 w ≡ flat encodeWord (T .words) ++ (zeros (linesAt - length topWords) ++ pad linesSize lineWordsOf)
     unfolding encodeTable
-    words-at = ap (drop 3) (is ∙ pad-front 256 topWords _)
+    words-at = ap (drop 3) (is ∙ pad-front linesAt topWords _)
 
     words-are : cut decodeWord 3 (getD w 0 0) (drop 3 w) ≡ T .words
     words-are = ap₂ (cut decodeWord 3) count words-at ∙ cut-flat encodeWord decodeWord 3 (T .words) _ (words-cut (T .words) (f .wordsFit))
 
-    lines-at : drop 256 w ≡ lineWordsOf ++ zeros (1024 - length lineWordsOf)
+    lines-at : drop linesAt w ≡ lineWordsOf ++ zeros (linesSize - length lineWordsOf)
     unfolding encodeTable pad
-    lines-at = ap (drop 256) is ∙ drop-pad 256 topWords _ head-words
+    lines-at = ap (drop linesAt) is ∙ drop-pad linesAt topWords _ head-words
 
-    lines-are : map lineIn (srcStack (drop 256 w)) ≡ T .lines
+    lines-are : map lineIn (srcStack (drop linesAt w)) ≡ T .lines
     lines-are =
         ap (λ l. map lineIn (srcStack l)) lines-at
         ∙ read-lines (length (T .words)) (f .wordCount) (T .lines) _ (f .linesFit)

@@ -12,6 +12,7 @@ use Rattle.atlite.specs.Term.{call, send, Kind}
 use Rattle.atlite.specs.Keywords.{operators}
 use Rattle.atlite.specs.Table.{textOf, Table, read}
 use Rattle.atlite.specs.Script.{SrcOp, kept, ask, resolve, seq, Src, num, null, var, op, letIn, future, fn, when, literal, nil, cons, noField, field, noMethod, method, Line, expression, define}
+use Rattle.layout.specs.Numbers.{nameLimit, tagLimit, linesAt}
 use Rattle.layout.specs.Kinds.{Form, nothing, nullValue, number, reference, variable, bare, onField, calls, sends, formIn}
 use Rattle.layout.specs.Reading.{cut, Item, alone, aField, aDefinition, aMethod, exprOf, fieldOf, methodOf, gather, first, stack}
 use Rattle.layout.specs.Decode.{decodeWord}
@@ -21,7 +22,7 @@ abbrev pub opIn : SrcOp → ℕ → List (Item Src) → List (Item Src)
 opIn o n s = alone (op o (gather (exprOf cons) nil n s)) ∷ drop n s
 
 abbrev pub askedIn : (ℕ → SrcOp) → ℕ → List (Item Src) → List (Item Src)
-askedIn f p s = opIn (f (p % 128)) (suc (p / 128 / 4)) s
+askedIn f p s = opIn (f (p % nameLimit)) (suc (p / nameLimit / tagLimit)) s
 
 abbrev pub literalIn : Kind → ℕ → List (Item Src) → List (Item Src)
 literalIn k p s =
@@ -41,7 +42,7 @@ onSrcs variable p s = alone (var p) ∷ s
 onSrcs (bare o n e) p s = opIn (kept o) n s
 onSrcs (onField c k n e) p s = opIn (kept (c p)) n s
 onSrcs Form.letIn p s = twoIn (letIn p) s
-onSrcs Form.future p s = alone (future (p % 128) (p / 128) (first null s)) ∷ drop 1 s
+onSrcs Form.future p s = alone (future (p % nameLimit) (p / nameLimit) (first null s)) ∷ drop 1 s
 onSrcs calls p s = askedIn (λ m. kept (call m)) p s
 onSrcs sends p s = askedIn (λ m. kept (send m)) p s
 onSrcs (Form.literal k) p s = literalIn k p s
@@ -68,7 +69,7 @@ lineIn (aDefinition x e) = define x e
 lineIn (aMethod m xs e) = expression e
 
 unfoldable pub decodeTable : List ℕ → Table
-decodeTable w = record { words = cut decodeWord 3 (getD w 0 0) (drop 3 w); lines = map lineIn (srcStack (drop 256 w)) }
+decodeTable w = record { words = cut decodeWord 3 (getD w 0 0) (drop 3 w); lines = map lineIn (srcStack (drop linesAt w)) }
 
 -- the table whose words these are: its text is read again, and what was read laid out and compared
 unfoldable pub sameTable : List ℕ → Result Table → Option Table

@@ -12,6 +12,7 @@ use Rattle.atlite.specs.Term.{this, Kind, plain, Op, call, send, written, shape
 use Rattle.atlite.specs.Valid.{isName}
 use Rattle.atlite.specs.Table.{countFields, countMethods, Named, Grammatical, GrammaticalAll, GrammaticalFields, GrammaticalMethods, GrammaticalLines, writable}
 use Rattle.atlite.specs.Script.{SrcOp, kept, ask, resolve, seq, Src, num, null, var, op, letIn, future, fn, when, literal, Srcs, nil, cons, SrcFields, noField, field, SrcMethods, noMethod, method, Line, expression, define, countSrcs}
+use Rattle.layout.specs.Numbers.{payload, fieldKind, nameLimit}
 use Rattle.layout.specs.Pack.{node, zeros, flat}
 use Rattle.layout.specs.Terms.{tagged, asked, arguments, opKind, kindNumber, fieldHeader, methodHeader}
 use Rattle.layout.specs.Tables.{srcKind, srcPayload, encodeSrc, encodeSrcs, encodeFields, encodeSrcMethods, encodeLine}
@@ -33,10 +34,10 @@ module _ (w : ℕ) (l : w ≤ 64) where
       go true e h = let z = eqb-true x this e in omega arith
       go false e h = name-fits w l x h
 
-  pub named-small : (x : ℕ) → Named w x → x < 16777216
+  pub named-small : (x : ℕ) → Named w x → x < payload
   named-small x h = omega (arith, name-fits w l x h)
 
-  pub two-small : (x y : ℕ) → Named w x → Named w y → x + 128 * y < 16777216
+  pub two-small : (x y : ℕ) → Named w x → Named w y → x + nameLimit * y < payload
   two-small x y h g = omega (arith, name-fits w l x h, name-fits w l y g)
 
 -- ---- what a list leaves on the stack
@@ -95,13 +96,13 @@ mutual
   methods-past (method m xs e ms) s = methods-past ms s
 
 -- ---- operators
-pub src-kind-small : (o : SrcOp) → srcKind o < 128
+pub src-kind-small : (o : SrcOp) → srcKind o < fieldKind
 src-kind-small (kept o) = omega (arith, op-kind (written o) .1)
 src-kind-small (ask m) = omega arith
 src-kind-small resolve = omega arith
 src-kind-small seq = omega arith
 
-pub src-payload-small : (w : ℕ) → w ≤ 64 → (o : SrcOp) (n : ℕ) → writable w o n ≡ true → srcPayload o n < 16777216
+pub src-payload-small : (w : ℕ) → w ≤ 64 → (o : SrcOp) (n : ℕ) → writable w o n ≡ true → srcPayload o n < payload
 src-payload-small w l (kept o) n h = label-small (shape (written o)) n (shape-fits w l (shape (written o)) n h)
 src-payload-small w l (ask m) n h = label-small (sending (plain m)) n (shape-fits w l (sending (plain m)) n h)
 src-payload-small w l resolve n h = omega arith
@@ -115,7 +116,7 @@ asked-in : (f : ℕ → SrcOp) (m : ℕ) (es : Srcs) (s : List (Item Src)) → O
 unfolding tagged countSrcs
 asked-in f m nil s h = absurd h
 asked-in f m (cons e es) s h =
-    let l : m < 128 = omega (arith, h .0) in
+    let l : m < nameLimit = omega (arith, h .0) in
     let n = countSrcs es in
     rw (first-digit m 0 n l (omega arith), third-digit m 0 n l (omega arith)) (op-in (f m) (suc n) (cons e es) s refl)
 
@@ -163,9 +164,9 @@ literal-form Kind.object fs ms s h = literal-in Kind.object fs ms s h
 literal-form Kind.isolate fs ms s h = literal-in Kind.isolate fs ms s h
 literal-form Kind.actor fs ms s h = literal-in Kind.actor fs ms s h
 
-future-form : (x y : ℕ) (e : Src) (s : List (Item Src)) → NameFits x → srcForm 12 (x + 128 * y) (alone e ∷ s) ≡ alone (future x y e) ∷ s
+future-form : (x y : ℕ) (e : Src) (s : List (Item Src)) → NameFits x → srcForm 12 (x + nameLimit * y) (alone e ∷ s) ≡ alone (future x y e) ∷ s
 unfolding srcForm Kinds onSrcs
-future-form x y e s h = let l : x < 128 = omega (arith, h) in rw (pack-low 128 x y l, pack-high 128 x y l)
+future-form x y e s h = let l : x < nameLimit = omega (arith, h) in rw (pack-low nameLimit x y l, pack-high nameLimit x y l)
 
 -- ---- the law
 mutual
@@ -181,7 +182,7 @@ mutual
   read-src (letIn x a b) w r l h =
       stack-exprs null srcForm 11 x (omega arith) (named-small w l x (h .0)) (encodeSrc a) (encodeSrc b) r a b (letIn x a b) (read-src a w (encodeSrc b ++ r) l (h .1)) (read-src b w r l (h .2)) refl
   read-src (future x y e) w r l h =
-      stack-list null srcForm 12 (x + 128 * y) (omega arith) (two-small w l x y (h .0) (h .1)) (encodeSrc e) r (alone e ∷ []) _ (read-src e w r l (h .2)) (future-form x y e (srcStack r) (name-fits w l x (h .0)))
+      stack-list null srcForm 12 (x + nameLimit * y) (omega arith) (two-small w l x y (h .0) (h .1)) (encodeSrc e) r (alone e ∷ []) _ (read-src e w r l (h .2)) (future-form x y e (srcStack r) (name-fits w l x (h .0)))
   read-src (literal k fs ms) w r l h =
       stack-lists null srcForm (kindNumber k) (countFields fs + 8 * countMethods ms) (kind-small k) (omega (arith, h .0, h .2)) (encodeFields fs) (encodeSrcMethods ms) r (fieldItems fs) (methodItems ms) _
       (read-fields fs w (encodeSrcMethods ms ++ r) l (h .1)) (read-methods ms w r l (h .3)) (literal-form k fs ms (srcStack r) (h .0))

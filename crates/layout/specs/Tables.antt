@@ -8,6 +8,7 @@ use lib.ListN.{length}
 use Rattle.atlite.specs.Term.{plain, written}
 use Rattle.atlite.specs.Table.{countFields, countMethods, Table}
 use Rattle.atlite.specs.Script.{SrcOp, kept, ask, resolve, seq, Src, num, null, var, op, letIn, future, fn, when, literal, Srcs, nil, cons, SrcFields, noField, field, SrcMethods, noMethod, method, Line, expression, define, countSrcs}
+use Rattle.layout.specs.Numbers.{nameLimit, linesAt, linesSize}
 use Rattle.layout.specs.Pack.{node, pad, flat}
 use Rattle.layout.specs.Terms.{variable, asked, arguments, opKind, opPayload, kindNumber, fieldHeader, methodHeader}
 use Rattle.layout.specs.Layout.{encodeWord}
@@ -31,7 +32,7 @@ unfoldable mutual
   encodeSrc (var x) = variable x ∷ []
   encodeSrc (op o es) = node (srcKind o) (srcPayload o (countSrcs es)) ∷ encodeSrcs es
   encodeSrc (letIn x e d) = node 11 x ∷ (encodeSrc e ++ encodeSrc d)
-  encodeSrc (future x y e) = node 12 (x + 128 * y) ∷ encodeSrc e
+  encodeSrc (future x y e) = node 12 (x + nameLimit * y) ∷ encodeSrc e
   encodeSrc (literal k fs ms) = node (kindNumber k) (countFields fs + 8 * countMethods ms) ∷ (encodeFields fs ++ encodeSrcMethods ms)
   encodeSrc (fn x e) = node 65 x ∷ encodeSrc e
   encodeSrc (when e x d) = node 67 x ∷ (encodeSrc e ++ encodeSrc d)
@@ -55,14 +56,11 @@ unfoldable pub encodeLine : Line → List ℕ
 encodeLine (expression e) = encodeSrc e
 encodeLine (define x e) = definitionHeader x ∷ encodeSrc e
 
-abbrev pub tableWords : ℕ
-tableWords = 1280
-
 -- numbers of words, of lines and of the lines' words; the dictionary as in a state; the lines
 unfoldable pub encodeTable : Table → List ℕ
 encodeTable T =
-    pad 256 (length (T .words) ∷ length (T .lines) ∷ length (flat encodeLine (T .lines)) ∷ flat encodeWord (T .words))
-    ++ pad 1024 (flat encodeLine (T .lines))
+    pad linesAt (length (T .words) ∷ length (T .lines) ∷ length (flat encodeLine (T .lines)) ∷ flat encodeWord (T .words))
+    ++ pad linesSize (flat encodeLine (T .lines))
 
 unfoldable pub Tables : Unit {0}
 unfolding encodeSrc encodeLine encodeTable

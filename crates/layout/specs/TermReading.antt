@@ -3,6 +3,7 @@ use Prim.Native.Nat.{ℕ, zero, suc, _/_, _%_}
 use mathlib.Core.List.{List, [], _∷_}
 use lib.ListN.{drop, getD}
 use Rattle.atlite.specs.Term.{Series, made, copied, Value, null, num, ref, Name, plain, twoWay, resolve, register, Op, call, send, written, Kind, Term, val, var, op, letIn, future, literal, Terms, nil, cons, Inits, noField, Methods, noMethod, method}
+use Rattle.layout.specs.Numbers.{payload, nameLimit, tagLimit, numberLimit}
 use Rattle.layout.specs.Kinds.{Kinds, Form, nothing, nullValue, number, reference, variable, bare, onField, calls, sends, formIn}
 use Rattle.layout.specs.Reading.{Item, alone, exprOf, fieldOf, methodOf, gather, first, stack}
 
@@ -26,7 +27,7 @@ nameIn (suc (suc zero)) n = resolve
 nameIn (suc (suc (suc k))) n = register
 
 abbrev pub refIn : ℕ → Value
-refIn p = ref (p / 65536 / 2) (seriesIn (p / 65536 % 2)) (p % 65536)
+refIn p = ref (p / numberLimit / 2) (seriesIn (p / numberLimit % 2)) (p % numberLimit)
 
 abbrev pub none : Term
 none = val null
@@ -35,7 +36,7 @@ abbrev pub opIn : Op Name → ℕ → List (Item Term) → List (Item Term)
 opIn o n s = alone (op o (termsIn n s)) ∷ drop n s
 
 abbrev pub askedIn : (Name → Op Name) → ℕ → List (Item Term) → List (Item Term)
-askedIn f p s = opIn (f (nameIn (p / 128 % 4) (p % 128))) (suc (p / 128 / 4)) s
+askedIn f p s = opIn (f (nameIn (p / nameLimit % tagLimit) (p % nameLimit))) (suc (p / nameLimit / tagLimit)) s
 
 abbrev pub literalIn : Kind → ℕ → List (Item Term) → List (Item Term)
 literalIn k p s = alone (literal k (initsIn (p % 8) s) (methodsIn (p / 8) (drop (p % 8) s))) ∷ drop (p / 8) (drop (p % 8) s)
@@ -50,7 +51,7 @@ onTerms variable p s = alone (var p) ∷ s
 onTerms (bare o n e) p s = opIn (written o) n s
 onTerms (onField c k n e) p s = opIn (written (c p)) n s
 onTerms Form.letIn p s = alone (letIn p (first none s) (first none (drop 1 s))) ∷ drop 2 s
-onTerms Form.future p s = alone (future (p % 128) (p / 128) (first none s)) ∷ drop 1 s
+onTerms Form.future p s = alone (future (p % nameLimit) (p / nameLimit) (first none s)) ∷ drop 1 s
 onTerms calls p s = askedIn call p s
 onTerms sends p s = askedIn send p s
 onTerms (Form.literal k) p s = literalIn k p s
@@ -65,7 +66,7 @@ unfoldable pub termAt : List ℕ → Term
 termAt w = first none (termStack w)
 
 unfoldable pub decodeValue : ℕ → Value
-decodeValue w = getD (null ∷ null ∷ num (w % 16777216) ∷ refIn (w % 16777216) ∷ []) (w / 16777216) null
+decodeValue w = getD (null ∷ null ∷ num (w % payload) ∷ refIn (w % payload) ∷ []) (w / payload) null
 
 unfoldable pub TermReading : Unit {0}
 unfolding Kinds onTerms termForm termAt decodeValue

@@ -6,6 +6,7 @@ use mathlib.Core.List.{List, [], _∷_, _++_}
 use native.Mathlib.Omega.{arith}
 use lib.ListN.{length, drop}
 use Rattle.atlite.specs.Term.{Series, made, copied, Value, null, num, ref, Name, plain, twoWay, resolve, register, Op, call, send, written, Shape, exactly, onField, calling, sending, shape, Kind, Term, val, var, op, letIn, future, literal, Terms, nil, cons, Inits, noField, Methods, noMethod, method, countTerms}
+use Rattle.layout.specs.Numbers.{payload, nameLimit, tagLimit, numberLimit}
 use Rattle.layout.specs.Pack.{zeros, pad}
 use Rattle.layout.specs.Terms.{countInits, countMethods, seriesBit, encodeValue, tagged, asked, arguments, labelNumber, opKind, opPayload, kindNumber, fieldHeader, methodHeader, encodeTerm, encodeTerms, encodeInits, encodeMethods}
 use Rattle.layout.specs.Kinds.{Kinds, Row, isBare, isField, isCall, isSend, row, op-kind, kind-small}
@@ -16,10 +17,10 @@ use Rattle.layout.specs.ReadLaws.{push-node, push-field, push-method, st
 use Rattle.layout.specs.TermLaws.{bare-count, field-payload, field-count, ValueFits, NameOk, ShapeFits, OpFits, Fits, FitsAll, FitsInits, FitsMethods}
 
 -- ---- values
-pub ref-back : (a : ℕ) (s : Series) (n : ℕ) → ValueFits (ref a s n) → refIn (n + 65536 * (seriesBit s + 2 * a)) ≡ ref a s n
+pub ref-back : (a : ℕ) (s : Series) (n : ℕ) → ValueFits (ref a s n) → refIn (n + numberLimit * (seriesBit s + 2 * a)) ≡ ref a s n
 unfolding seriesBit
-ref-back a made n h = rw (pack-low 65536 n (0 + 2 * a) (h .0), pack-high 65536 n (0 + 2 * a) (h .0), pack-low 2 0 a (omega arith), pack-high 2 0 a (omega arith))
-ref-back a copied n h = rw (pack-low 65536 n (1 + 2 * a) (h .0), pack-high 65536 n (1 + 2 * a) (h .0), pack-low 2 1 a (omega arith), pack-high 2 1 a (omega arith))
+ref-back a made n h = rw (pack-low numberLimit n (0 + 2 * a) (h .0), pack-high numberLimit n (0 + 2 * a) (h .0), pack-low 2 0 a (omega arith), pack-high 2 0 a (omega arith))
+ref-back a copied n h = rw (pack-low numberLimit n (1 + 2 * a) (h .0), pack-high numberLimit n (1 + 2 * a) (h .0), pack-low 2 1 a (omega arith), pack-high 2 1 a (omega arith))
 
 pub bit : (s : Series) → seriesBit s < 2
 unfolding seriesBit
@@ -29,11 +30,11 @@ bit copied = omega arith
 pub value-back : (v : Value) → ValueFits v → decodeValue (encodeValue v) ≡ v
 unfolding decodeValue encodeValue
 value-back null h = refl
-value-back (num n) h = rw (pack-low 16777216 n 2 h, pack-high 16777216 n 2 h)
+value-back (num n) h = rw (pack-low payload n 2 h, pack-high payload n 2 h)
 value-back (ref a s n) h =
-    let p = n + 65536 * (seriesBit s + 2 * a) in
-    let l : p < 16777216 = omega (arith, h, bit s) in
-    rw (pack-low 16777216 p 3 l, pack-high 16777216 p 3 l) (ref-back a s n h)
+    let p = n + numberLimit * (seriesBit s + 2 * a) in
+    let l : p < payload = omega (arith, h, bit s) in
+    rw (pack-low payload p 3 l, pack-high payload p 3 l) (ref-back a s n h)
 
 -- a word 0 is never a value
 pub value-nonzero : (v : Value) → 1 ≤ encodeValue v
@@ -47,8 +48,8 @@ unfolding encodeValue Kinds onTerms termForm
 push-value null s h = push-node none termForm 1 0 s (omega arith) (omega arith)
 push-value (num n) s h = push-node none termForm 2 n s h (omega arith)
 push-value (ref a t n) s h =
-    let p = n + 65536 * (seriesBit t + 2 * a) in
-    let l : p < 16777216 = omega (arith, h, bit t) in
+    let p = n + numberLimit * (seriesBit t + 2 * a) in
+    let l : p < payload = omega (arith, h, bit t) in
     push-node none termForm 3 p s l (omega arith) ∙ ap (λ v. alone (val v) ∷ s) (ref-back a t n h)
 
 -- ---- names with a tag and a count
@@ -59,14 +60,14 @@ asked-small (twoWay m) n h l = omega (arith, h)
 asked-small resolve n h l = omega arith
 asked-small register n h l = omega arith
 
-pub asked-name : (m : Name) (n : ℕ) → NameOk m → nameIn (asked m n / 128 % 4) (asked m n % 128) ≡ m
+pub asked-name : (m : Name) (n : ℕ) → NameOk m → nameIn (asked m n / nameLimit % tagLimit) (asked m n % nameLimit) ≡ m
 unfolding tagged
-asked-name (plain m) n h = let l : m < 128 = omega (arith, h) in ap₂ nameIn (second-digit m 0 n l (omega arith)) (first-digit m 0 n l (omega arith))
-asked-name (twoWay m) n h = let l : m < 128 = omega (arith, h) in ap₂ nameIn (second-digit m 1 n l (omega arith)) (first-digit m 1 n l (omega arith))
+asked-name (plain m) n h = let l : m < nameLimit = omega (arith, h) in ap₂ nameIn (second-digit m 0 n l (omega arith)) (first-digit m 0 n l (omega arith))
+asked-name (twoWay m) n h = let l : m < nameLimit = omega (arith, h) in ap₂ nameIn (second-digit m 1 n l (omega arith)) (first-digit m 1 n l (omega arith))
 asked-name resolve n h = ap₂ nameIn (second-digit 0 2 n (omega arith) (omega arith)) (first-digit 0 2 n (omega arith) (omega arith))
 asked-name register n h = ap₂ nameIn (second-digit 0 3 n (omega arith) (omega arith)) (first-digit 0 3 n (omega arith) (omega arith))
 
-pub asked-count : (m : Name) (n : ℕ) → NameOk m → asked m n / 128 / 4 ≡ n
+pub asked-count : (m : Name) (n : ℕ) → NameOk m → asked m n / nameLimit / tagLimit ≡ n
 unfolding tagged
 asked-count (plain m) n h = third-digit m 0 n (omega (arith, h)) (omega arith)
 asked-count (twoWay m) n h = third-digit m 1 n (omega (arith, h)) (omega arith)
@@ -129,7 +130,7 @@ mutual
   methods-past (method m xs e ms) s = methods-past ms s
 
 -- ---- the forms whose payload has digits
-pub label-small : (s : Shape Name) (n : ℕ) → ShapeFits s n → labelNumber asked s n < 16777216
+pub label-small : (s : Shape Name) (n : ℕ) → ShapeFits s n → labelNumber asked s n < payload
 label-small (exactly k) n h = omega arith
 label-small (onField f k) n h = omega (arith, h .0)
 label-small (calling m) zero h = absurd h
@@ -172,9 +173,9 @@ literal-form Kind.object fs ms s h = literal-in Kind.object fs ms s h
 literal-form Kind.isolate fs ms s h = literal-in Kind.isolate fs ms s h
 literal-form Kind.actor fs ms s h = literal-in Kind.actor fs ms s h
 
-future-form : (x y : ℕ) (e : Term) (s : List (Item Term)) → NameFits x → termForm 12 (x + 128 * y) (alone e ∷ s) ≡ alone (future x y e) ∷ s
+future-form : (x y : ℕ) (e : Term) (s : List (Item Term)) → NameFits x → termForm 12 (x + nameLimit * y) (alone e ∷ s) ≡ alone (future x y e) ∷ s
 unfolding Kinds onTerms termForm
-future-form x y e s h = let l : x < 128 = omega (arith, h) in rw (pack-low 128 x y l, pack-high 128 x y l)
+future-form x y e s h = let l : x < nameLimit = omega (arith, h) in rw (pack-low nameLimit x y l, pack-high nameLimit x y l)
 
 -- ---- the law
 mutual
@@ -189,7 +190,7 @@ mutual
   read-term (letIn x a b) r h =
       stack-exprs none termForm 11 x (omega arith) (omega (arith, h .0)) (encodeTerm a) (encodeTerm b) r a b (letIn x a b) (read-term a (encodeTerm b ++ r) (h .1)) (read-term b r (h .2)) refl
   read-term (future x y e) r h =
-      stack-list none termForm 12 (x + 128 * y) (omega arith) (omega (arith, h .0, h .1)) (encodeTerm e) r (alone e ∷ []) _ (read-term e r (h .2)) (future-form x y e (termStack r) (h .0))
+      stack-list none termForm 12 (x + nameLimit * y) (omega arith) (omega (arith, h .0, h .1)) (encodeTerm e) r (alone e ∷ []) _ (read-term e r (h .2)) (future-form x y e (termStack r) (h .0))
   read-term (literal k fs ms) r h =
       stack-lists none termForm (kindNumber k) (countInits fs + 8 * countMethods ms) (kind-small k) (omega (arith, h .0, h .1)) (encodeInits fs) (encodeMethods ms) r (initItems fs) (methodItems ms) _
       (read-inits fs (encodeMethods ms ++ r) (h .2)) (read-methods ms r (h .3)) (literal-form k fs ms (termStack r) (h .0))

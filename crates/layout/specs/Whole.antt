@@ -8,6 +8,7 @@ use borrow.Author.Tests.{ne-eqb}
 use lib.ListN.{length, drop, getD, length-append}
 use Rattle.atlite.specs.Base.{if_then_else_}
 use Rattle.atlite.specs.State.{Actor, State}
+use Rattle.layout.specs.Numbers.{partSize, headSize, partsSize, tailSize, stateWords}
 use Rattle.layout.specs.Pack.{zeros, pad, flat}
 use Rattle.layout.specs.Reading.{cut}
 use Rattle.layout.specs.PackLaws.{pack-low, pack-high, length-zeros, length-pad, pad-front, drop-pad, Each, length-flat, cut-flat}
@@ -56,11 +57,11 @@ unfolding encodeWord threeWords
 words-three [] = tt
 words-three (x ∷ ws) = (refl, words-three ws)
 
-actors-cut : (As : List Actor) → Each ActorFits As → Each (λ A. (length (encodeActor A) ≡ 3200) × (decodeActor (encodeActor A) ≡ A)) As
+actors-cut : (As : List Actor) → Each ActorFits As → Each (λ A. (length (encodeActor A) ≡ partSize) × (decodeActor (encodeActor A) ≡ A)) As
 actors-cut [] h = tt
 actors-cut (A ∷ As) h = ((actor-length A (h .0), actor-back A (h .0)), actors-cut As (h .1))
 
-pub actors-parts : (As : List Actor) → Each ActorFits As → Each (λ A. length (encodeActor A) ≡ 3200) As
+pub actors-parts : (As : List Actor) → Each ActorFits As → Each (λ A. length (encodeActor A) ≡ partSize) As
 actors-parts [] h = tt
 actors-parts (A ∷ As) h = (actor-length A (h .0), actors-parts As (h .1))
 
@@ -71,17 +72,17 @@ module _ (σ : State) (f : StateFits σ) where
   pub head-words : length topWords ≤ 256
   head-words = omega (arith, length-flat encodeWord 3 (σ .words) (words-three (σ .words)), f .wordCount)
 
-  pub part-words : length (flat encodeActor (σ .actors)) ≤ 12800
-  part-words = omega (arith, length-flat encodeActor 3200 (σ .actors) (actors-parts (σ .actors) (f .actorsFit)), f .actorCount)
+  pub part-words : length (flat encodeActor (σ .actors)) ≤ partsSize
+  part-words = omega (arith, length-flat encodeActor partSize (σ .actors) (actors-parts (σ .actors) (f .actorsFit)), f .actorCount)
 
-  pub encode-length : length (encode σ) ≡ 16384
+  pub encode-length : length (encode σ) ≡ stateWords
   unfolding encode
   encode-length =
-      let a0 = length-append (pad 256 topWords) (pad 12800 (flat encodeActor (σ .actors)) ++ zeros 3328) in
-      let a1 = length-append (pad 12800 (flat encodeActor (σ .actors))) (zeros 3328) in
-      let b0 = length-pad 256 topWords head-words in
-      let b1 = length-pad 12800 (flat encodeActor (σ .actors)) part-words in
-      let b2 = length-zeros 3328 in
+      let a0 = length-append (pad headSize topWords) (pad partsSize (flat encodeActor (σ .actors)) ++ zeros tailSize) in
+      let a1 = length-append (pad partsSize (flat encodeActor (σ .actors))) (zeros tailSize) in
+      let b0 = length-pad headSize topWords head-words in
+      let b1 = length-pad partsSize (flat encodeActor (σ .actors)) part-words in
+      let b2 = length-zeros tailSize in
       omega arith
 
   module _ (w : List ℕ) (is : w ≡ encode σ) where
@@ -93,19 +94,19 @@ module _ (σ : State) (f : StateFits σ) where
     unfolding encode pad
     count1 = ap (λ l. getD l 1 0) is
 
-    pub words-at : drop 2 w ≡ flat encodeWord (σ .words) ++ (zeros (256 - length topWords) ++ (pad 12800 (flat encodeActor (σ .actors)) ++ zeros 3328))
+    pub words-at : drop 2 w ≡ flat encodeWord (σ .words) ++ (zeros (headSize - length topWords) ++ (pad partsSize (flat encodeActor (σ .actors)) ++ zeros tailSize))
     unfolding encode
-    words-at = ap (drop 2) (is ∙ pad-front 256 topWords _)
+    words-at = ap (drop 2) (is ∙ pad-front headSize topWords _)
 
-    pub actors-at : drop 256 w ≡ flat encodeActor (σ .actors) ++ (zeros (12800 - length (flat encodeActor (σ .actors))) ++ zeros 3328)
+    pub actors-at : drop headSize w ≡ flat encodeActor (σ .actors) ++ (zeros (partsSize - length (flat encodeActor (σ .actors))) ++ zeros tailSize)
     unfolding encode
-    actors-at = ap (drop 256) is ∙ drop-pad 256 topWords _ head-words ∙ pad-front 12800 (flat encodeActor (σ .actors)) (zeros 3328)
+    actors-at = ap (drop headSize) is ∙ drop-pad headSize topWords _ head-words ∙ pad-front partsSize (flat encodeActor (σ .actors)) (zeros tailSize)
 
     pub words-are : cut decodeWord 3 (getD w 1 0) (drop 2 w) ≡ σ .words
     words-are = ap₂ (cut decodeWord 3) count1 words-at ∙ cut-flat encodeWord decodeWord 3 (σ .words) _ (words-cut (σ .words) (f .wordsFit))
 
-    actors-are : cut decodeActor 3200 (getD w 0 0) (drop 256 w) ≡ σ .actors
-    actors-are = ap₂ (cut decodeActor 3200) count0 actors-at ∙ cut-flat encodeActor decodeActor 3200 (σ .actors) _ (actors-cut (σ .actors) (f .actorsFit))
+    actors-are : cut decodeActor partSize (getD w 0 0) (drop headSize w) ≡ σ .actors
+    actors-are = ap₂ (cut decodeActor partSize) count0 actors-at ∙ cut-flat encodeActor decodeActor partSize (σ .actors) _ (actors-cut (σ .actors) (f .actorsFit))
 
     pub state-read : decode w ≡ σ
     unfolding decode

@@ -2,7 +2,6 @@
 // in specs/. The code here is the numbers of the layout, under the names that specs/Numbers.antt has them by.
 pub mod kinds;
 
-
 // Where a word's kind stands, and the greatest number below it; headers begin at the last.
 pub const PAYLOAD: u32 = 16777216;
 

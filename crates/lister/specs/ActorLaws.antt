@@ -8,8 +8,9 @@ use lib.ListN.{drop, getD}
 use lib.Seq.{getD-drop, drop-drop}
 use Rattle.atlite.specs.Base.{bytes}
 use Rattle.atlite.specs.Printer.{printNumber}
+use Rattle.layout.specs.Numbers.{payload, inboxAt, waitingAt, madeAt, copiedAt, bodiesAt, partSize, headSize}
 use Rattle.showing.specs.Writing.{most, Wrote, wrote-none, wrote-two}
-use Rattle.showing.specs.Shown.{payload, shown}
+use Rattle.showing.specs.Shown.{shown}
 use Rattle.lister.specs.Listed.{deep, inboxIn, slotsIn, spacedIn, titleIn, countsIn, exprIn, lineIn, entitiesIn, actorIn, actorsIn, listedIn}
 use Rattle.showing.specs.Codes.{Showed}
 use Rattle.lister.specs.Codes.{Slotted}
@@ -44,19 +45,19 @@ module _ (old : List ℕ) (o : ℕ) where
           wrote-two old o _ _ m₁ new p r e (wrote-two m₁ p _ _ m₂ new q r f (rw (drop-drop 16 at t) g))
 
       pub entities-whole : (mid new : List ℕ) (i j p k l r : ℕ)
-          → Slotted t (slotsIn t a 0 (getD t (at + 1) 0 % 64) (drop (at + 720) t) (drop (at + 1104) t) (drop (at + 624) t)) old o mid i j p
-          → Slotted t (slotsIn t a 1 (getD t (at + 2) 0 % 32) (drop (at + 976) t) (drop i t) (drop j t)) mid p new k l r
+          → Slotted t (slotsIn t a 0 (getD t (at + 1) 0 % 64) (drop (at + madeAt) t) (drop (at + bodiesAt) t) (drop (at + waitingAt) t)) old o mid i j p
+          → Slotted t (slotsIn t a 1 (getD t (at + 2) 0 % 32) (drop (at + copiedAt) t) (drop i t) (drop j t)) mid p new k l r
           → Wrote old o (entitiesIn t a (drop at t)) new r
       unfolding entitiesIn
       entities-whole mid new i j p k l r e f =
-          rw (getD-drop at t 1 0, getD-drop at t 2 0, drop-drop 720 at t, drop-drop 1104 at t, drop-drop 624 at t, drop-drop 976 at t, ← (e .bodies), ← (e .waiting))
+          rw (getD-drop at t 1 0, getD-drop at t 2 0, drop-drop madeAt at t, drop-drop bodiesAt at t, drop-drop waitingAt at t, drop-drop copiedAt at t, ← (e .bodies), ← (e .waiting))
           (wrote-two old o _ _ mid new p r (e .text) (f .text))
 
       pub actor-whole : (m₁ m₂ new : List ℕ) (p q r : ℕ) → Wrote old o (lineIn t a (drop at t)) m₁ p → Wrote m₁ p (entitiesIn t a (drop at t)) m₂ q
-          → Wrote m₂ q (inboxIn t (getD t (at + 3) 0 % 32) (drop (at + 528) t)) new r → Wrote old o (actorIn t a (drop at t)) new r
+          → Wrote m₂ q (inboxIn t (getD t (at + 3) 0 % 32) (drop (at + inboxAt) t)) new r → Wrote old o (actorIn t a (drop at t)) new r
       unfolding actorIn
       actor-whole m₁ m₂ new p q r e f g =
-          rw (getD-drop at t 3 0, drop-drop 528 at t) (wrote-two old o _ _ m₁ new p r e (wrote-two m₁ p _ _ m₂ new q r f g))
+          rw (getD-drop at t 3 0, drop-drop inboxAt at t) (wrote-two old o _ _ m₁ new p r e (wrote-two m₁ p _ _ m₂ new q r f g))
 
       module _ (n : ℕ) where
         pub actors-none : n ≡ 0 → o ≤ most → Wrote old o (actorsIn t a n (drop at t)) old o
@@ -64,15 +65,15 @@ module _ (old : List ℕ) (o : ℕ) where
         actors-none e h = rw e (wrote-none old o h)
 
         pub actors-more : (mid new : List ℕ) (p r : ℕ) → (n ≡ 0 → ⊥) → Wrote old o (actorIn t a (drop at t)) mid p
-            → Wrote mid p (actorsIn t (a + 1) (n - 1) (drop (at + 3200) t)) new r → Wrote old o (actorsIn t a n (drop at t)) new r
+            → Wrote mid p (actorsIn t (a + 1) (n - 1) (drop (at + partSize) t)) new r → Wrote old o (actorsIn t a n (drop at t)) new r
         unfolding actorsIn
         actors-more mid new p r f e g = more n f g
           where
-            more : (n : ℕ) → (n ≡ 0 → ⊥) → Wrote mid p (actorsIn t (a + 1) (n - 1) (drop (at + 3200) t)) new r → Wrote old o (actorsIn t a n (drop at t)) new r
+            more : (n : ℕ) → (n ≡ 0 → ⊥) → Wrote mid p (actorsIn t (a + 1) (n - 1) (drop (at + partSize) t)) new r → Wrote old o (actorsIn t a n (drop at t)) new r
             more zero f g = absurd (f refl)
-            more (suc n) f g = rw (drop-drop 3200 at t) (wrote-two old o _ _ mid new p r e (rw sub-one at g))
+            more (suc n) f g = rw (drop-drop partSize at t) (wrote-two old o _ _ mid new p r e (rw sub-one at g))
 
-pub list-whole : (t old new : List ℕ) (r : ℕ) → Wrote old 0 (actorsIn t 0 (getD t 0 0 % 5) (drop 256 t)) new r → Wrote old 0 (listedIn t) new r
+pub list-whole : (t old new : List ℕ) (r : ℕ) → Wrote old 0 (actorsIn t 0 (getD t 0 0 % 5) (drop headSize t)) new r → Wrote old 0 (listedIn t) new r
 unfolding listedIn
 list-whole t old new r a = a
 

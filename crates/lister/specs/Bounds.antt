@@ -13,9 +13,10 @@ use Rattle.atlite.specs.Base.{bytes, all}
 use Rattle.atlite.specs.Facts.{and₂}
 use Rattle.atlite.specs.Lexicon.{Bytes}
 use Rattle.atlite.specs.Printer.{digits, printNumber}
+use Rattle.layout.specs.Numbers.{payload, header, nameLimit, noName, taggedLimit, secondPlace, thirdPlace, numberLimit, ownerUnit, ownerLimit, slotUnit, exprAt, inboxAt, waitingAt, madeAt, copiedAt, bodiesAt, partSize, headSize, stateWords}
 use Rattle.layout.specs.Kinds.{Words, keywords, wordAt, wordIn as wordOf}
 use Rattle.showing.specs.Writing.{most}
-use Rattle.showing.specs.Shown.{payload, noName, letterIn, lettersIn, knownIn, wordIn, taggedIn, nameIn, first, second, openIn, placesIn, paramsIn, after, count, operatorIn, headIn, seriesIn, ownerIn, refIn, leafIn, Text, operandsIn, formIn, shown}
+use Rattle.showing.specs.Shown.{letterIn, lettersIn, knownIn, wordIn, taggedIn, nameIn, first, second, openIn, placesIn, paramsIn, after, count, operatorIn, headIn, seriesIn, ownerIn, refIn, leafIn, Text, operandsIn, formIn, shown}
 use Rattle.lister.specs.Listed.{deep, messageIn, waits, waitingIn, inboxIn, fieldsIn, kindIn, stateIn, entryIn, openingIn, Entry, partsIn, slotIn, slotsIn, spacedIn, titleIn, countsIn, exprIn, lineIn, entitiesIn, actorIn, actorsIn, listedIn}
 
 -- ---- one word
@@ -55,7 +56,7 @@ word-bound t x =
 tagged-bound : (t : List ℕ) (c : ℕ) → length (taggedIn t c) ≤ 14
 unfolding taggedIn bytes
 tagged-bound t c =
-    either 14 (ltb c 128) _ _ (omega (arith, word-bound t c)) (either 14 (ltb c 256) _ _ (omega (arith, length-append (wordIn t (c - 128)) (46 ∷ 102 ∷ []), word-bound t (c - 128)))
+    either 14 (ltb c nameLimit) _ _ (omega (arith, word-bound t c)) (either 14 (ltb c 256) _ _ (omega (arith, length-append (wordIn t (c - nameLimit)) (46 ∷ 102 ∷ []), word-bound t (c - nameLimit)))
     (either 14 (ltb c 384) _ _ (omega arith) (omega arith)))
 
 name-bound : (t : List ℕ) (c : ℕ) → length (nameIn t c) ≤ 15
@@ -77,7 +78,7 @@ places-bound t x y z =
 
 params-bound : (t : List ℕ) (h : ℕ) → length (paramsIn t h) ≤ 45
 unfolding paramsIn
-params-bound t h = either 45 (ltb (h / payload) 192) _ _ (omega arith) (places-bound t (h / 512 % 128) (h / 65536 % 128) (h / 8388608 % 128))
+params-bound t h = either 45 (ltb (h / payload) 192) _ _ (omega arith) (places-bound t (h / taggedLimit % nameLimit) (h / secondPlace % nameLimit) (h / thirdPlace % nameLimit))
 
 head-bound : (t : List ℕ) (h : ℕ) → length (headIn t h) ≤ 88
 unfolding headIn operatorIn
@@ -107,16 +108,16 @@ series-bound s = either 3 (eqb s 0) _ _ (omega arith) (omega arith)
 ref-bound : (h : ℕ) → length (refIn h) ≤ 25
 unfolding refIn ownerIn bytes
 ref-bound h =
-    let a = printNumber (h / 131072 % 128) in
-    let s = seriesIn (h / 65536 % 2) in
-    let n = printNumber (h % 65536) in
-    omega (arith, length-append a (s ++ (n ++ (41 ∷ []))), length-append s (n ++ (41 ∷ [])), length-append n (41 ∷ []), number-bound (h / 131072 % 128), series-bound (h / 65536 % 2), number-bound (h % 65536))
+    let a = printNumber (h / ownerUnit % ownerLimit) in
+    let s = seriesIn (h / numberLimit % 2) in
+    let n = printNumber (h % numberLimit) in
+    omega (arith, length-append a (s ++ (n ++ (41 ∷ []))), length-append s (n ++ (41 ∷ [])), length-append n (41 ∷ []), number-bound (h / ownerUnit % ownerLimit), series-bound (h / numberLimit % 2), number-bound (h % numberLimit))
 
 leaf-bound : (t : List ℕ) (h : ℕ) → length (leafIn t h) ≤ 25
 unfolding leafIn bytes
 leaf-bound t h =
     either 25 (eqb (h / payload) 1) _ _ (omega arith) (either 25 (eqb (h / payload) 2) _ _ (omega (arith, number-bound (h % payload)))
-    (either 25 (eqb (h / payload) 3) _ _ (ref-bound h) (omega (arith, word-bound t (h % 128)))))
+    (either 25 (eqb (h / payload) 3) _ _ (ref-bound h) (omega (arith, word-bound t (h % nameLimit)))))
 
 -- ---- terms
 -- a text has at most 128 bytes for each word that it took, and k more
@@ -151,7 +152,7 @@ module _ (t : List ℕ) where
   -- ---- messages and fields
   -- no more words than a state has
   abbrev Few : List ℕ → Type 0
-  Few w = length w ≤ 16384
+  Few w = length w ≤ stateWords
 
   dropped : (n : ℕ) (w : List ℕ) → Few w → Few (drop n w)
   dropped n w h = omega (arith, length-drop n w)
@@ -170,8 +171,8 @@ module _ (t : List ℕ) where
   message-bound : (w : List ℕ) → Few w → length (messageIn t w) ≤ 2097270
   unfolding messageIn bytes
   message-bound w f =
-      let x = getD w 0 0 % 512 in
-      let n = 1 + getD w 0 0 / 512 % 8 in
+      let x = getD w 0 0 % slotUnit in
+      let n = 1 + getD w 0 0 / taggedLimit % 8 in
       let a = operandsIn t (shown t 1) x n (drop 1 w) in
       omega (arith, length-append (a .text) (41 ∷ []), operands-bound (shown t 1) (shown-bound 1) x n (drop 1 w), name-bound t x, dropped 1 w f)
 
@@ -193,10 +194,10 @@ module _ (t : List ℕ) where
   unfolding fieldsIn
   fields-bound zero x w f = omega arith
   fields-bound (suc n) x w f =
-      let h = 2147483648 + x % 128 in
+      let h = header + x % nameLimit in
       let a = leaf-forms h w f in
       let y = formIn t (shown t 1) h w in
-      omega (arith, a .0, length-append (y .text) (fieldsIn t n (x / 128) (y .rest)), fields-bound n (x / 128) (y .rest) (a .1))
+      omega (arith, a .0, length-append (y .text) (fieldsIn t n (x / nameLimit) (y .rest)), fields-bound n (x / nameLimit) (y .rest) (a .1))
 
   -- ---- slots
   kind-bound : (k : ℕ) → length (kindIn k) ≤ 10
@@ -213,9 +214,9 @@ module _ (t : List ℕ) where
   unfolding openingIn entryIn
   opening-bound a s h v =
       let k = kindIn (h % 8) in
-      let n = printNumber (h / 512) in
+      let n = printNumber (h / slotUnit) in
       let u = stateIn t (h % 8) v in
-      omega (arith, length-append (k ++ printNumber a) (seriesIn s ++ (n ++ u)), length-append k (printNumber a), length-append (seriesIn s) (n ++ u), length-append n u, kind-bound (h % 8), number-bound a, series-bound s, number-bound (h / 512), state-bound (h % 8) v)
+      omega (arith, length-append (k ++ printNumber a) (seriesIn s ++ (n ++ u)), length-append k (printNumber a), length-append (seriesIn s) (n ++ u), length-append n u, kind-bound (h % 8), number-bound a, series-bound s, number-bound (h / slotUnit), state-bound (h % 8) v)
 
   abbrev Good : ℕ → Entry → Type 0
   Good n x = (length (x .text) ≤ n) × Few (x .bodies) × Few (x .waiting)
@@ -224,10 +225,10 @@ module _ (t : List ℕ) where
   unfolding partsIn nameIn
   parts-bound h x w b q f g i =
       let m = operandsIn t (shown t deep) noName (h / 64 % 8) b in
-      let u = waitingIn t 16 (h / 512) q in
+      let u = waitingIn t 16 (h / slotUnit) q in
       let y = fieldsIn t (h / 8 % 8) x w in
       let k = operands-bound (shown t deep) (shown-bound deep) noName (h / 64 % 8) b in
-      let j = waiting-bound 16 (h / 512) q i in
+      let j = waiting-bound 16 (h / slotUnit) q i in
       let l = fields-bound (h / 8 % 8) x w f in
       (omega (arith, k, j .0, l, length-append y (m .text ++ (u .text ++ (41 ∷ 10 ∷ []))), length-append (m .text) (u .text ++ (41 ∷ 10 ∷ [])), length-append (u .text) (41 ∷ 10 ∷ [])), omega (arith, k), j .1)
 
@@ -250,29 +251,29 @@ module _ (t : List ℕ) where
       let x = printNumber (getD w 0 0 % payload) in
       let y = printNumber (getD w 1 0 % 64) in
       let z = printNumber (getD w 2 0 % 32) in
-      let e = shown t deep (drop 16 w) in
+      let e = shown t deep (drop exprAt w) in
       let u : Bytes = 32 ∷ (e .text ++ (41 ∷ 10 ∷ [])) in
-      omega (arith, length-append p ((32 ∷ (x ++ (32 ∷ (y ++ (32 ∷ z))))) ++ u), length-append (x ++ (32 ∷ (y ++ (32 ∷ z)))) u, length-append x (32 ∷ (y ++ (32 ∷ z))), length-append y (32 ∷ z), length-append (e .text) (41 ∷ 10 ∷ []), number-bound a, number-bound (getD w 0 0 % payload), number-bound (getD w 1 0 % 64), number-bound (getD w 2 0 % 32), shown-bound deep (drop 16 w), dropped 16 w f)
+      omega (arith, length-append p ((32 ∷ (x ++ (32 ∷ (y ++ (32 ∷ z))))) ++ u), length-append (x ++ (32 ∷ (y ++ (32 ∷ z)))) u, length-append x (32 ∷ (y ++ (32 ∷ z))), length-append y (32 ∷ z), length-append (e .text) (41 ∷ 10 ∷ []), number-bound a, number-bound (getD w 0 0 % payload), number-bound (getD w 1 0 % 64), number-bound (getD w 2 0 % 32), shown-bound deep (drop exprAt w), dropped 16 w f)
 
   actor-bound : (a : ℕ) (w : List ℕ) → Few w → length (actorIn t a w) ≤ 6000000000
   unfolding actorIn entitiesIn
   actor-bound a w f =
       let n = getD w 1 0 % 64 in
       let k = getD w 2 0 % 32 in
-      let m = slotsIn t a 0 n (drop 720 w) (drop 1104 w) (drop 624 w) in
-      let i = slots-bound a 0 n (drop 720 w) (drop 1104 w) (drop 624 w) (dropped 720 w f) (dropped 1104 w f) (dropped 624 w f) in
-      let c = slotsIn t a 1 k (drop 976 w) (m .bodies) (m .waiting) in
-      let j = slots-bound a 1 k (drop 976 w) (m .bodies) (m .waiting) (dropped 976 w f) (i .1) (i .2) in
-      let q = inboxIn t (getD w 3 0 % 32) (drop 528 w) in
+      let m = slotsIn t a 0 n (drop madeAt w) (drop bodiesAt w) (drop waitingAt w) in
+      let i = slots-bound a 0 n (drop madeAt w) (drop bodiesAt w) (drop waitingAt w) (dropped madeAt w f) (dropped bodiesAt w f) (dropped waitingAt w f) in
+      let c = slotsIn t a 1 k (drop copiedAt w) (m .bodies) (m .waiting) in
+      let j = slots-bound a 1 k (drop copiedAt w) (m .bodies) (m .waiting) (dropped copiedAt w f) (i .1) (i .2) in
+      let q = inboxIn t (getD w 3 0 % 32) (drop inboxAt w) in
       let h = m .text ++ c .text in
-      omega (arith, i .0, j .0, length-append (lineIn t a w) (h ++ q), length-append h q, length-append (m .text) (c .text), line-bound a w f, inbox-bound (getD w 3 0 % 32) (drop 528 w) (dropped 528 w f))
+      omega (arith, i .0, j .0, length-append (lineIn t a w) (h ++ q), length-append h q, length-append (m .text) (c .text), line-bound a w f, inbox-bound (getD w 3 0 % 32) (drop inboxAt w) (dropped inboxAt w f))
 
   actors-bound : (a n : ℕ) (w : List ℕ) → Few w → length (actorsIn t a n w) ≤ n * 6000000000
   unfolding actorsIn
   actors-bound a zero w f = omega arith
   actors-bound a (suc n) w f =
-      omega (arith, length-append (actorIn t a w) (actorsIn t (a + 1) n (drop 3200 w)), actor-bound a w f, actors-bound (a + 1) n (drop 3200 w) (dropped 3200 w f))
+      omega (arith, length-append (actorIn t a w) (actorsIn t (a + 1) n (drop partSize w)), actor-bound a w f, actors-bound (a + 1) n (drop partSize w) (dropped partSize w f))
 
-pub listed-bound : (t : List ℕ) → length t ≤ 16384 → length (listedIn t) ≤ most
+pub listed-bound : (t : List ℕ) → length t ≤ stateWords → length (listedIn t) ≤ most
 unfolding listedIn
-listed-bound t f = omega (arith, actors-bound t 0 (getD t 0 0 % 5) (drop 256 t) (dropped t 256 t f))
+listed-bound t f = omega (arith, actors-bound t 0 (getD t 0 0 % 5) (drop headSize t) (dropped t 256 t f))

@@ -15,6 +15,7 @@ use Rattle.atlite.specs.Listing.{printSeries, printValue, printMethods, printFi
 use Rattle.atlite.specs.Term.{Series, made, copied, Value, Methods}
 use Rattle.atlite.specs.State.{Message, Field, Tag, O, I, Entity, object, future, resolver, fieldNames, fieldValues}
 use Rattle.reading.specs.Items.{behind, behind-append, form-closing}
+use Rattle.layout.specs.Numbers.{payload, noName, numberLimit, slotUnit, bodiesSize}
 use Rattle.layout.specs.Pack.{zeros, pad, flat, names}
 use Rattle.layout.specs.PackLaws.{pad-front, Each, each-map}
 use Rattle.layout.specs.Terms.{seriesBit, countMethods, encodeMethods}
@@ -22,7 +23,7 @@ use Rattle.layout.specs.TermLaws.{ValueFits}
 use Rattle.layout.specs.Layout.{valueWords, encodeMessage, slotHead, tagNumber, slot, slots, methodsOf, bodies, queue, queues}
 use Rattle.layout.specs.Slots.{MessageFits, EntityFits, EntitiesFit, At, queue-at, queues-from, queues-fit, slot-length, tag-low}
 use Rattle.layout.specs.Places.{flat-append}
-use Rattle.showing.specs.Shown.{payload, noName, seriesIn, operandsIn, shown}
+use Rattle.showing.specs.Shown.{seriesIn, operandsIn, shown}
 use Rattle.lister.specs.Listed.{deep, waits, waitingIn, fieldsIn, kindIn, stateIn, entryIn, openingIn, Entry, partsIn, slotIn, slotsIn}
 use Rattle.showing.specs.Spelling.{Spells}
 use Rattle.showing.specs.Says.{behind-text, showing}
@@ -45,7 +46,7 @@ module _ (k f m n : ℕ) (h : k < 8) (i : f < 8) (j : m < 8) where
   unfolding slotHead
   head-methods = omega arith
 
-  head-number : slotHead k f m n / 512 ≡ n
+  head-number : slotHead k f m n / slotUnit ≡ n
   unfolding slotHead
   head-number = omega arith
 
@@ -76,7 +77,7 @@ abbrev pub entry : Bytes → List ℕ → List ℕ → Entry
 entry s b q = record { text = s; bodies = b; waiting = q }
 
 module _ (t : List ℕ) (ws : List Bytes) (sp : Spells t ws) (a : ℕ) (s : Series) where
-  opening-text : (k n h v : ℕ) (key : Bytes) (si : List Bytes) (rest : Bytes) (items : List Bytes) → h % 8 ≡ k → h / 512 ≡ n
+  opening-text : (k n h v : ℕ) (key : Bytes) (si : List Bytes) (rest : Bytes) (items : List Bytes) → h % 8 ≡ k → h / slotUnit ≡ n
       → kindIn k ≡ 40 ∷ (key ++ (32 ∷ [])) → stateIn t k v ≡ behind si [] → behind si [] ++ rest ≡ behind items (41 ∷ 10 ∷ [])
       → openingIn t a (seriesBit s) h v ++ rest ≡ line (key ∷ printNumber a ∷ printSeries s ∷ printNumber n ∷ items)
   unfolding openingIn entryIn
@@ -113,7 +114,7 @@ module _ (t : List ℕ) (ws : List Bytes) (sp : Spells t ws) (a : ℕ) (s : Seri
 
   -- ---- the four entities
   module _ (n : ℕ) (w b q : List ℕ) (e : waits n q ≡ false) where
-    object-shown : (g : Tag) (F : List Field) (M : Methods) → EntityFits n (object g F M) → length (encodeMethods M) ≤ 1536
+    object-shown : (g : Tag) (F : List Field) (M : Methods) → EntityFits n (object g F M) → length (encodeMethods M) ≤ bodiesSize
         → slotIn t a (seriesBit s) (slot n (object g F M) ++ w) (encodeMethods M ++ b) q
         ≡ entry (printEntity ws (object g F M) (printNumber a) (printSeries s) (printNumber n)) b q
     unfolding slot printEntity flat
@@ -145,7 +146,7 @@ module _ (t : List ℕ) (ws : List Bytes) (sp : Spells t ws) (a : ℕ) (s : Seri
         slot-text 4 0 0 n (omega arith) (omega arith) (omega arith) (bytes "future") (printValue v ∷ []) [] [] [] 0 _ b b q q
         refl (ap {B = Bytes} (λ u. 32 ∷ u) (leaf-shown t ws sp v h ∙ sym (append-nil (printValue v)))) refl refl (waiting-shown t ws sp n 16 [] q (omega arith) tt tt e)
 
-    resolver-shown : (k : ℕ) → k < 65536
+    resolver-shown : (k : ℕ) → k < numberLimit
         → slotIn t a (seriesBit s) (slot n (resolver k) ++ w) b q
         ≡ entry (printEntity ws (resolver k) (printNumber a) (printSeries s) (printNumber n)) b q
     unfolding slot printEntity kindIn stateIn fieldsIn operandsIn flat bytes
@@ -154,7 +155,7 @@ module _ (t : List ℕ) (ws : List Bytes) (sp : Spells t ws) (a : ℕ) (s : Seri
         slot-text 5 0 0 n (omega arith) (omega arith) (omega arith) (bytes "resolver") (printNumber k ∷ []) [] [] [] 0 _ b b q q
         refl (ap {B = Bytes} (λ u. 32 ∷ u) (ap printNumber z ∙ sym (append-nil (printNumber k)))) refl refl (waiting-shown t ws sp n 16 [] q (omega arith) tt tt e)
 
-    entity-shown : (o : Entity) → EntityFits n o → length (encodeMethods (methodsOf o)) ≤ 1536 → length (queue o) ≤ 16
+    entity-shown : (o : Entity) → EntityFits n o → length (encodeMethods (methodsOf o)) ≤ bodiesSize → length (queue o) ≤ 16
         → slotIn t a (seriesBit s) (slot n o ++ w) (encodeMethods (methodsOf o) ++ b) (flat encodeMessage (queue o) ++ q)
         ≡ entry (printEntity ws o (printNumber a) (printSeries s) (printNumber n)) b q
     unfolding methodsOf queue flat encodeMethods
@@ -166,7 +167,7 @@ module _ (t : List ℕ) (ws : List Bytes) (sp : Spells t ws) (a : ℕ) (s : Seri
     entity-shown (resolver k) h l i = resolver-shown k h
 
   -- ---- all entities of a series
-  pub entities-shown : (n : ℕ) (h : List Entity) (w b q : List ℕ) → EntitiesFit n h → length (bodies h) ≤ 1536 → length (queues h) ≤ 16 → Quiet q
+  pub entities-shown : (n : ℕ) (h : List Entity) (w b q : List ℕ) → EntitiesFit n h → length (bodies h) ≤ bodiesSize → length (queues h) ≤ 16 → Quiet q
       → slotsIn t a (seriesBit s) (length h) (slots n h ++ w) (bodies h ++ b) (flat encodeMessage (queues h) ++ q) ≡ entry (printEntities ws a s n h) b q
   unfolding slotsIn slots bodies queues flat printEntities
   entities-shown n [] w b q f l k i = refl

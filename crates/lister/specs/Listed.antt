@@ -10,20 +10,21 @@ use lib.Dec.{eqb}
 use Rattle.atlite.specs.Base.{bytes}
 use Rattle.atlite.specs.Lexicon.{Bytes}
 use Rattle.atlite.specs.Printer.{printNumber}
-use Rattle.showing.specs.Shown.{payload, noName, seriesIn, leafIn, Text, operandsIn, formIn, shown}
+use Rattle.layout.specs.Numbers.{payload, header, nameLimit, noName, taggedLimit, numberLimit, slotUnit, exprAt, inboxAt, waitingAt, madeAt, copiedAt, bodiesSize, bodiesAt, partSize, headSize}
+use Rattle.showing.specs.Shown.{seriesIn, leafIn, Text, operandsIn, formIn, shown}
 
 -- no term has more words in one another than the bodies of an actor have words
 abbrev pub deep : ℕ
-deep = 1536
+deep = bodiesSize
 
 -- ---- messages
 -- the message that w begins with: its receiver, its name and its arguments stand as a send's operands do
 unfoldable pub messageIn : List ℕ → List ℕ → Bytes
-messageIn t w = bytes "(message" ++ (operandsIn t (shown t 1) (getD w 0 0 % 512) (1 + getD w 0 0 / 512 % 8) (drop 1 w) .text ++ (41 ∷ []))
+messageIn t w = bytes "(message" ++ (operandsIn t (shown t 1) (getD w 0 0 % slotUnit) (1 + getD w 0 0 / taggedLimit % 8) (drop 1 w) .text ++ (41 ∷ []))
 
 -- the number in a reference
 unfoldable pub aimIn : ℕ → ℕ
-aimIn v = cond (eqb (v / payload) 3) (v % 65536) 0
+aimIn v = cond (eqb (v / payload) 3) (v % numberLimit) 0
 
 -- w begins with a message to the entity n
 unfoldable pub waits : ℕ → List ℕ → Bool
@@ -45,8 +46,8 @@ inboxIn t (suc n) w = messageIn t w ++ ((10 ∷ []) ++ inboxIn t n (drop 6 w))
 unfoldable pub fieldsIn : List ℕ → ℕ → ℕ → List ℕ → Bytes
 fieldsIn t zero x w = []
 fieldsIn t (suc n) x w =
-    let a = formIn t (shown t 1) (2147483648 + x % 128) w in
-    (32 ∷ []) ++ (a .text ++ fieldsIn t n (x / 128) (a .rest))
+    let a = formIn t (shown t 1) (header + x % nameLimit) w in
+    (32 ∷ []) ++ (a .text ++ fieldsIn t n (x / nameLimit) (a .rest))
 
 unfoldable pub kindIn : ℕ → Bytes
 kindIn k =
@@ -64,7 +65,7 @@ entryIn k a = kindIn k ++ printNumber a
 
 -- the opening of the slot of head h, with v in its first place, in series s of the actor a
 unfoldable pub openingIn : List ℕ → ℕ → ℕ → ℕ → ℕ → Bytes
-openingIn t a s h v = entryIn (h % 8) a ++ (seriesIn s ++ (printNumber (h / 512) ++ stateIn t (h % 8) v))
+openingIn t a s h v = entryIn (h % 8) a ++ (seriesIn s ++ (printNumber (h / slotUnit) ++ stateIn t (h % 8) v))
 
 -- a text, and the words of the two regions that are left
 pub record Entry : Type 0 where
@@ -76,7 +77,7 @@ pub record Entry : Type 0 where
 unfoldable pub partsIn : List ℕ → ℕ → ℕ → List ℕ → List ℕ → List ℕ → Entry
 partsIn t h x w b q =
     let m = operandsIn t (shown t deep) noName (h / 64 % 8) b in
-    let u = waitingIn t 16 (h / 512) q in
+    let u = waitingIn t 16 (h / slotUnit) q in
     record { text = fieldsIn t (h / 8 % 8) x w ++ (m .text ++ (u .text ++ (41 ∷ 10 ∷ []))); bodies = m .rest; waiting = u .rest }
 
 unfoldable pub slotIn : List ℕ → ℕ → ℕ → List ℕ → List ℕ → List ℕ → Entry
@@ -107,20 +108,20 @@ unfoldable pub exprIn : List ℕ → List ℕ → Bytes
 exprIn t w = (32 ∷ []) ++ (shown t deep w .text ++ (41 ∷ 10 ∷ []))
 
 unfoldable pub lineIn : List ℕ → ℕ → List ℕ → Bytes
-lineIn t a w = titleIn a ++ (countsIn w ++ exprIn t (drop 16 w))
+lineIn t a w = titleIn a ++ (countsIn w ++ exprIn t (drop exprAt w))
 
 unfoldable pub entitiesIn : List ℕ → ℕ → List ℕ → Bytes
 entitiesIn t a w =
-    let m = slotsIn t a 0 (getD w 1 0 % 64) (drop 720 w) (drop 1104 w) (drop 624 w) in
-    m .text ++ slotsIn t a 1 (getD w 2 0 % 32) (drop 976 w) (m .bodies) (m .waiting) .text
+    let m = slotsIn t a 0 (getD w 1 0 % 64) (drop madeAt w) (drop bodiesAt w) (drop waitingAt w) in
+    m .text ++ slotsIn t a 1 (getD w 2 0 % 32) (drop copiedAt w) (m .bodies) (m .waiting) .text
 
 -- the actor a, whose part w begins with
 unfoldable pub actorIn : List ℕ → ℕ → List ℕ → Bytes
-actorIn t a w = lineIn t a w ++ (entitiesIn t a w ++ inboxIn t (getD w 3 0 % 32) (drop 528 w))
+actorIn t a w = lineIn t a w ++ (entitiesIn t a w ++ inboxIn t (getD w 3 0 % 32) (drop inboxAt w))
 
 unfoldable pub actorsIn : List ℕ → ℕ → ℕ → List ℕ → Bytes
 actorsIn t a zero w = []
-actorsIn t a (suc n) w = actorIn t a w ++ actorsIn t (a + 1) n (drop 3200 w)
+actorsIn t a (suc n) w = actorIn t a w ++ actorsIn t (a + 1) n (drop partSize w)
 
 unfoldable pub listedIn : List ℕ → Bytes
-listedIn t = actorsIn t 0 (getD t 0 0 % 5) (drop 256 t)
+listedIn t = actorsIn t 0 (getD t 0 0 % 5) (drop headSize t)

@@ -10,7 +10,8 @@ use lib.Seq.{sets, length-take-le}
 use Rattle.atlite.specs.State.{State}
 use Rattle.atlite.specs.Valid.{IsState}
 use Rattle.atlite.specs.Listing.{listing}
-use Rattle.layout.specs.Layout.{stateWords, encode}
+use Rattle.layout.specs.Numbers.{stateWords}
+use Rattle.layout.specs.Layout.{encode}
 use Rattle.layout.specs.Holds.{state-fits}
 use Rattle.showing.specs.Writing.{most, Wrote}
 use Rattle.lister.specs.Listed.{listedIn}

@@ -16,6 +16,7 @@ use Rattle.atlite.specs.Listing.{printValue, printField, printMessage, printInb
 use Rattle.atlite.specs.Term.{made, copied, Value, null, num, ref}
 use Rattle.atlite.specs.State.{Message, message, Field, field, fieldNames, fieldValues}
 use Rattle.reading.specs.Items.{behind}
+use Rattle.layout.specs.Numbers.{payload, header, nameLimit, numberLimit}
 use Rattle.layout.specs.Pack.{zeros, pad, flat, names}
 use Rattle.layout.specs.PackLaws.{pack-low, pack-high, Each, NameFits}
 use Rattle.layout.specs.Terms.{seriesBit, encodeValue, tagged, fieldHeader}
@@ -23,7 +24,7 @@ use Rattle.layout.specs.TermLaws.{ValueFits}
 use Rattle.layout.specs.Layout.{valueWords, encodeMessage}
 use Rattle.layout.specs.Decode.{aimOf, aim}
 use Rattle.layout.specs.Slots.{MessageFits, message-length, From, At}
-use Rattle.showing.specs.Shown.{payload, formIn, shown}
+use Rattle.showing.specs.Shown.{formIn, shown}
 use Rattle.lister.specs.Listed.{messageIn, aimIn, waits, waitingIn, inboxIn, fieldsIn}
 use Rattle.showing.specs.Spelling.{Spells}
 use Rattle.showing.specs.Says.{form-text, showing}
@@ -34,18 +35,18 @@ use Rattle.showing.specs.Forms.{Operands, none, more, last, names-shown, form-s
 pub aim-value : (v : Value) → ValueFits v → aimIn (encodeValue v) ≡ aimOf v
 unfolding aimIn encodeValue seriesBit aimOf
 aim-value null h = refl
-aim-value (num n) h = let z : (n + 16777216 * 2) / payload ≡ 2 = omega arith in rw z
+aim-value (num n) h = let z : (n + payload * 2) / payload ≡ 2 = omega arith in rw z
 aim-value (ref a made n) h =
     let i = h .0 in
     let j = h .1 in
-    let z : (n + 65536 * (0 + 2 * a) + 16777216 * 3) / payload ≡ 3 = omega arith in
-    let y : (n + 65536 * (0 + 2 * a) + 16777216 * 3) % 65536 ≡ n = omega arith in
+    let z : (n + numberLimit * (0 + 2 * a) + payload * 3) / payload ≡ 3 = omega arith in
+    let y : (n + numberLimit * (0 + 2 * a) + payload * 3) % numberLimit ≡ n = omega arith in
     rw (z, y)
 aim-value (ref a copied n) h =
     let i = h .0 in
     let j = h .1 in
-    let z : (n + 65536 * (1 + 2 * a) + 16777216 * 3) / payload ≡ 3 = omega arith in
-    let y : (n + 65536 * (1 + 2 * a) + 16777216 * 3) % 65536 ≡ n = omega arith in
+    let z : (n + numberLimit * (1 + 2 * a) + payload * 3) / payload ≡ 3 = omega arith in
+    let y : (n + numberLimit * (1 + 2 * a) + payload * 3) % numberLimit ≡ n = omega arith in
     rw (z, y)
 
 message-waits : (n : ℕ) (m : Message) (r : List ℕ) → MessageFits m → aim m ≡ n → waits n (encodeMessage m ++ r) ≡ true
@@ -111,10 +112,10 @@ module _ (t : List ℕ) (ws : List Bytes) (sp : Spells t ws) where
 
   -- ---- fields
   field-shown : (f : ℕ) (v : Value) (r : List ℕ) → NameFits f → ValueFits v
-      → formIn t (shown t 1) (2147483648 + f) (encodeValue v ∷ r) ≡ showing (form (fieldWord ∷ printWord ws f ∷ printValue v ∷ [])) r
+      → formIn t (shown t 1) (header + f) (encodeValue v ∷ r) ≡ showing (form (fieldWord ∷ printWord ws f ∷ printValue v ∷ [])) r
   unfolding placed
   field-shown f v r g h =
-      let z : 2147483648 + f ≡ fieldHeader f = omega arith in
+      let z : header + f ≡ fieldHeader f = omega arith in
       rw z (form-shown (field-says t ws sp f g) (last (encodeValue v ∷ []) (value-shown t ws sp v 1 r h (omega arith))))
 
   pub fields-shown : (F : List Field) (r : List ℕ) → Each NameFits (fieldNames F) → Each ValueFits (fieldValues F)
@@ -122,5 +123,5 @@ module _ (t : List ℕ) (ws : List Bytes) (sp : Spells t ws) where
   unfolding fieldsIn names valueWords fieldNames fieldValues printField
   fields-shown [] r g h = refl
   fields-shown (field f v ∷ F) r g h =
-      let i : f < 128 = omega (arith, g .0) in
-      rw (pack-low 128 f (names (fieldNames F)) i, pack-high 128 f (names (fieldNames F)) i, field-shown f v (valueWords (fieldValues F) ++ r) (g .0) (h .0), fields-shown F r (g .1) (h .1))
+      let i : f < nameLimit = omega (arith, g .0) in
+      rw (pack-low nameLimit f (names (fieldNames F)) i, pack-high nameLimit f (names (fieldNames F)) i, field-shown f v (valueWords (fieldValues F) ++ r) (g .0) (h .0), fields-shown F r (g .1) (h .1))

@@ -11,8 +11,9 @@ use lib.ListN.{length, drop, getD, drop-of-length-le, List·getD-eq-default}
 use lib.Seq.{getD-drop, drop-drop}
 use Rattle.atlite.specs.Base.{bytes}
 use Rattle.atlite.specs.Printer.{printNumber}
+use Rattle.layout.specs.Numbers.{payload, header, nameLimit, noName, taggedLimit, numberLimit, slotUnit}
 use Rattle.showing.specs.Writing.{most, Wrote, wrote-none, wrote-two}
-use Rattle.showing.specs.Shown.{payload, seriesIn, leafIn, operandsIn, formIn, shown}
+use Rattle.showing.specs.Shown.{seriesIn, leafIn, operandsIn, formIn, shown}
 use Rattle.lister.specs.Listed.{deep, messageIn, aimIn, waits, waitingIn, inboxIn, fieldsIn, kindIn, stateIn, entryIn, openingIn, partsIn, slotIn, slotsIn}
 use Rattle.showing.specs.Codes.{Showed}
 use Rattle.lister.specs.Codes.{Slotted}
@@ -22,7 +23,7 @@ pub here : (t : List ℕ) (at : ℕ) → getD (drop at t) 0 0 ≡ getD t at 0
 here t at = getD-drop at t 0 0 ∙ rw add-zero
 
 -- ---- messages
-pub aim-ref : (v : ℕ) → v / payload ≡ 3 → v % 65536 ≡ aimIn v
+pub aim-ref : (v : ℕ) → v / payload ≡ 3 → v % numberLimit ≡ aimIn v
 unfolding aimIn
 aim-ref v e = rw (eq-eqb (v / payload) 3 e)
 
@@ -36,7 +37,7 @@ aim-none v e = rw (ne-eqb (v / payload) 3 e)
 
 module _ (t : List ℕ) (at : ℕ) (old : List ℕ) (o : ℕ) where
   pub message-whole : (m₁ m₂ new : List ℕ) (p i q r : ℕ) → Wrote old o (bytes "(message") m₁ p
-      → Showed t (operandsIn t (shown t 1) (getD t at 0 % 512) (1 + getD t at 0 / 512 % 8) (drop (at + 1) t)) m₁ p m₂ i q → Wrote m₂ q (41 ∷ []) new r
+      → Showed t (operandsIn t (shown t 1) (getD t at 0 % slotUnit) (1 + getD t at 0 / taggedLimit % 8) (drop (at + 1) t)) m₁ p m₂ i q → Wrote m₂ q (41 ∷ []) new r
       → Wrote old o (messageIn t (drop at t)) new r
   unfolding messageIn
   message-whole m₁ m₂ new p i q r a b c = rw (here t at, drop-drop 1 at t) (wrote-two old o _ _ m₁ new p r a (wrote-two m₁ p _ _ m₂ new q r (b .text) c))
@@ -101,12 +102,12 @@ module _ (t : List ℕ) (at : ℕ) (old : List ℕ) (o : ℕ) where
       fields-none e h = rw e (wrote-none old o h)
 
       pub fields-more : (m₁ m₂ new : List ℕ) (p i q r : ℕ) → (n ≡ 0 → ⊥) → Wrote old o (32 ∷ []) m₁ p
-          → Showed t (formIn t (shown t 1) (2147483648 + x % 128) (drop at t)) m₁ p m₂ i q
-          → Wrote m₂ q (fieldsIn t (n - 1) (x / 128) (drop i t)) new r → Wrote old o (fieldsIn t n x (drop at t)) new r
+          → Showed t (formIn t (shown t 1) (header + x % nameLimit) (drop at t)) m₁ p m₂ i q
+          → Wrote m₂ q (fieldsIn t (n - 1) (x / nameLimit) (drop i t)) new r → Wrote old o (fieldsIn t n x (drop at t)) new r
       unfolding fieldsIn
       fields-more m₁ m₂ new p i q r f a b c = more n f (rw (b .rest) at c)
         where
-          more : (n : ℕ) → (n ≡ 0 → ⊥) → Wrote m₂ q (fieldsIn t (n - 1) (x / 128) (formIn t (shown t 1) (2147483648 + x % 128) (drop at t) .rest)) new r
+          more : (n : ℕ) → (n ≡ 0 → ⊥) → Wrote m₂ q (fieldsIn t (n - 1) (x / nameLimit) (formIn t (shown t 1) (header + x % nameLimit) (drop at t) .rest)) new r
               → Wrote old o (fieldsIn t n x (drop at t)) new r
           more zero f c = absurd (f refl)
           more (suc n) f c = wrote-two old o _ _ m₁ new p r a (wrote-two m₁ p _ _ m₂ new q r (b .text) (rw sub-one at c))
@@ -145,14 +146,14 @@ module _ (t old : List ℕ) (o k : ℕ) where
   end-whole mid new p r x y = wrote-two old o (41 ∷ []) (10 ∷ []) mid new p r x y
 
   pub opening-whole : (a s v : ℕ) (m₁ m₂ m₃ new : List ℕ) (b c d r : ℕ) → Wrote old o (entryIn (k % 8) a) m₁ b → Wrote m₁ b (seriesIn s) m₂ c
-      → Wrote m₂ c (printNumber (k / 512)) m₃ d → Wrote m₃ d (stateIn t (k % 8) v) new r → Wrote old o (openingIn t a s k v) new r
+      → Wrote m₂ c (printNumber (k / slotUnit)) m₃ d → Wrote m₃ d (stateIn t (k % 8) v) new r → Wrote old o (openingIn t a s k v) new r
   unfolding openingIn
   opening-whole a s v m₁ m₂ m₃ new b c d r e f g i =
       wrote-two old o _ _ m₁ new b r e (wrote-two m₁ b _ _ m₂ new c r f (wrote-two m₂ c _ _ m₃ new d r g i))
 
   pub parts-whole : (x at body wait : ℕ) (m₁ m₂ m₃ new : List ℕ) (a i b j c r : ℕ) → Wrote old o (fieldsIn t (k / 8 % 8) x (drop at t)) m₁ a
-      → Showed t (operandsIn t (shown t deep) 127 (k / 64 % 8) (drop body t)) m₁ a m₂ i b
-      → Showed t (waitingIn t 16 (k / 512) (drop wait t)) m₂ b m₃ j c → Wrote m₃ c (41 ∷ 10 ∷ []) new r
+      → Showed t (operandsIn t (shown t deep) noName (k / 64 % 8) (drop body t)) m₁ a m₂ i b
+      → Showed t (waitingIn t 16 (k / slotUnit) (drop wait t)) m₂ b m₃ j c → Wrote m₃ c (41 ∷ 10 ∷ []) new r
       → Slotted t (partsIn t k x (drop at t) (drop body t) (drop wait t)) old o new i j r
   unfolding partsIn
   parts-whole x at body wait m₁ m₂ m₃ new a i b j c r e f g h = record {

@@ -14,14 +14,15 @@ use Rattle.atlite.specs.Listing.{printTerm, line, printEntities, printInbox, pr
 use Rattle.atlite.specs.Term.{made, copied}
 use Rattle.atlite.specs.State.{Entity, object, future, resolver, Actor, State}
 use Rattle.reading.specs.Items.{form-closing}
+use Rattle.layout.specs.Numbers.{payload, exprAt, exprSize, queueSize, inboxAt, waitingAt, madeSize, copiedSize, madeAt, copiedAt, bodiesSize, bodiesAt, restSize, partSize, headSize, partsSize, tailSize}
 use Rattle.layout.specs.Pack.{zeros, pad, flat}
 use Rattle.layout.specs.PackLaws.{pad-front, drop-pad, length-flat, Each}
 use Rattle.layout.specs.Terms.{seriesBit, countMethods, encodeTerm}
 use Rattle.layout.specs.Layout.{encodeWord, encodeMessage, slotHead, slot, slots, bodies, queues, encodeActor, encode}
 use Rattle.layout.specs.Slots.{EntitiesFit, tag-low}
-use Rattle.layout.specs.Parts.{ActorFits, r0, r1, r2, r3, r4, r5, r6, counts, regions, actor-length}
+use Rattle.layout.specs.Parts.{ActorFits, fromCounts, fromExpr, fromInbox, fromWaiting, fromMade, fromCopied, fromBodies, counts, regions, actor-length}
 use Rattle.layout.specs.Whole.{StateFits, topWords, head-words, words-three}
-use Rattle.showing.specs.Shown.{payload, Text, shown}
+use Rattle.showing.specs.Shown.{Text, shown}
 use Rattle.lister.specs.Listed.{deep, Entry, slotsIn, spacedIn, titleIn, countsIn, exprIn, lineIn, entitiesIn, actorIn, actorsIn, listedIn}
 use Rattle.showing.specs.Spelling.{Spells, entry-at}
 use Rattle.lister.specs.Shows.{show-term}
@@ -47,7 +48,7 @@ head-quiet : (k f m : ℕ) → k < 8 → f < 8 → m < 8 → slotHead k f m 0 < 
 unfolding slotHead
 head-quiet k f m h i j = omega arith
 
-slots-quiet : (h : List Entity) (w : List ℕ) → EntitiesFit 0 h → Quiet (pad 256 (slots 0 h) ++ w)
+slots-quiet : (h : List Entity) (w : List ℕ) → EntitiesFit 0 h → Quiet (pad madeSize (slots 0 h) ++ w)
 unfolding Quiet pad zeros slots slot
 slots-quiet [] w f = omega arith
 slots-quiet (object g F M ∷ h) w f = head-quiet _ (length F) (countMethods M) (tag-low g) (omega (arith, f .0 .0 .0)) (omega (arith, f .0 .1))
@@ -81,27 +82,27 @@ module _ (t : List ℕ) (ws : List Bytes) (sp : Spells t ws) (a : ℕ) (A : Acto
   abbrev b : List ℕ
   b = bodies (A .made) ++ bodies (A .copied)
 
-  at0 : drop 0 W ≡ r0 (counts A f) e i q m c b ++ r
+  from-counts : drop 0 W ≡ fromCounts (counts A f) e i q m c b ++ r
   unfolding encodeActor
-  at0 = is
+  from-counts = is
 
-  at16 : drop 16 W ≡ r1 e i q m c b ++ r
-  at16 = step 16 0 (counts A f) (r1 e i q m c b) r W at0 (regions A f .lh)
+  from-expr : drop exprAt W ≡ fromExpr e i q m c b ++ r
+  from-expr = step 16 0 (counts A f) (fromExpr e i q m c b) r W from-counts (regions A f .lh)
 
-  at528 : drop 528 W ≡ r2 i q m c b ++ r
-  at528 = step 512 16 e (r2 i q m c b) r W at16 (regions A f .le)
+  from-inbox : drop inboxAt W ≡ fromInbox i q m c b ++ r
+  from-inbox = step exprSize exprAt e (fromInbox i q m c b) r W from-expr (regions A f .le)
 
-  at624 : drop 624 W ≡ r3 q m c b ++ r
-  at624 = step 96 528 i (r3 q m c b) r W at528 (regions A f .li)
+  from-waiting : drop waitingAt W ≡ fromWaiting q m c b ++ r
+  from-waiting = step queueSize inboxAt i (fromWaiting q m c b) r W from-inbox (regions A f .li)
 
-  at720 : drop 720 W ≡ r4 m c b ++ r
-  at720 = step 96 624 q (r4 m c b) r W at624 (regions A f .lq)
+  from-made : drop madeAt W ≡ fromMade m c b ++ r
+  from-made = step queueSize waitingAt q (fromMade m c b) r W from-waiting (regions A f .lq)
 
-  at976 : drop 976 W ≡ r5 c b ++ r
-  at976 = step 256 720 m (r5 c b) r W at720 (regions A f .lm)
+  from-copied : drop copiedAt W ≡ fromCopied c b ++ r
+  from-copied = step madeSize madeAt m (fromCopied c b) r W from-made (regions A f .lm)
 
-  at1104 : drop 1104 W ≡ r6 b ++ r
-  at1104 = step 128 976 c (r6 b) r W at976 (regions A f .lc)
+  from-bodies : drop bodiesAt W ≡ fromBodies b ++ r
+  from-bodies = step copiedSize copiedAt c (fromBodies b) r W from-copied (regions A f .lc)
 
   count0 : getD W 0 0 ≡ A .moves
   unfolding encodeActor pad
@@ -119,10 +120,10 @@ module _ (t : List ℕ) (ws : List Bytes) (sp : Spells t ws) (a : ℕ) (A : Acto
   unfolding encodeActor pad
   count3 = ap (λ l. getD l 3 0) is
 
-  expr-shown : shown t deep (drop 16 W) .text ≡ printTerm ws (A .expr)
+  expr-shown : shown t deep (drop exprAt W) .text ≡ printTerm ws (A .expr)
   expr-shown =
       let l = f .expressionWords in
-      ap (λ w. shown t deep w .text) (front 512 16 e (r2 i q m c b) r W at16)
+      ap (λ w. shown t deep w .text) (front exprSize exprAt e (fromInbox i q m c b) r W from-expr)
       ∙ ap (λ (x : Text). x .text) (show-term t ws sp (A .expr) deep _ (f .expression) (omega arith))
 
   -- counts are below what they are cut at
@@ -146,36 +147,36 @@ module _ (t : List ℕ) (ws : List Bytes) (sp : Spells t ws) (a : ℕ) (A : Acto
       ∙ sym (form-closing (bytes "actor") (printNumber a ∷ printNumber (A .moves) ∷ printNumber (length (A .made)) ∷ printNumber (length (A .copied)) ∷ printTerm ws (A .expr) ∷ []) (10 ∷ [])))
 
   abbrev rest : List ℕ
-  rest = zeros (96 - length q) ++ (r4 m c b ++ r)
+  rest = zeros (queueSize - length q) ++ (fromMade m c b ++ r)
 
   abbrev left : List ℕ
-  left = zeros (1536 - length b) ++ (zeros 560 ++ r)
+  left = zeros (bodiesSize - length b) ++ (zeros restSize ++ r)
 
-  made-shown : slotsIn t a 0 (getD W 1 0 % 64) (drop 720 W) (drop 1104 W) (drop 624 W) ≡ entry (printEntities ws a made 0 (A .made)) (bodies (A .copied) ++ left) rest
+  made-shown : slotsIn t a 0 (getD W 1 0 % 64) (drop madeAt W) (drop bodiesAt W) (drop waitingAt W) ≡ entry (printEntities ws a made 0 (A .made)) (bodies (A .copied) ++ left) rest
   unfolding seriesBit
   made-shown =
       let x = length-append (bodies (A .made)) (bodies (A .copied)) in
       let y = f .bodyWords in
-      let z : Quiet rest = zeros-quiet (96 - length q) _ (transp Quiet (sym (append-assoc (pad 256 m) (r5 c b) r)) (slots-quiet (A .made) _ (f .madeFits))) in
-      rw (small1, front 256 720 m (r5 c b) r W at720, front 1536 1104 b (zeros 560) r W at1104, front 96 624 q (r4 m c b) r W at624, append-assoc (bodies (A .made)) (bodies (A .copied)) left)
+      let z : Quiet rest = zeros-quiet (queueSize - length q) _ (transp Quiet (sym (append-assoc (pad madeSize m) (fromCopied c b) r)) (slots-quiet (A .made) _ (f .madeFits))) in
+      rw (small1, front madeSize madeAt m (fromCopied c b) r W from-made, front bodiesSize bodiesAt b (zeros restSize) r W from-bodies, front queueSize waitingAt q (fromMade m c b) r W from-waiting, append-assoc (bodies (A .made)) (bodies (A .copied)) left)
       (entities-shown t ws sp a made 0 (A .made) _ (bodies (A .copied) ++ left) rest (f .madeFits) (omega arith) (f .waitingCount) z)
 
-  copied-shown : slotsIn t a 1 (getD W 2 0 % 32) (drop 976 W) (bodies (A .copied) ++ left) rest ≡ entry (printEntities ws a copied 0 (A .copied)) left rest
+  copied-shown : slotsIn t a 1 (getD W 2 0 % 32) (drop copiedAt W) (bodies (A .copied) ++ left) rest ≡ entry (printEntities ws a copied 0 (A .copied)) left rest
   unfolding flat seriesBit
   copied-shown =
       let x = length-append (bodies (A .made)) (bodies (A .copied)) in
       let y = f .bodyWords in
       let n = f .noneWaits in
       let l : length (queues (A .copied)) ≡ 0 = ap length n in
-      let z : Quiet rest = zeros-quiet (96 - length q) _ (transp Quiet (sym (append-assoc (pad 256 m) (r5 c b) r)) (slots-quiet (A .made) _ (f .madeFits))) in
-      ap₂ (λ k w. slotsIn t a 1 k w (bodies (A .copied) ++ left) rest) small2 (front 128 976 c (r6 b) r W at976)
-      ∙ ap {B = Entry} (λ p. slotsIn t a 1 (length (A .copied)) (c ++ (zeros (128 - length c) ++ (r6 b ++ r))) (bodies (A .copied) ++ left) (flat encodeMessage p ++ rest)) (sym n)
+      let z : Quiet rest = zeros-quiet (queueSize - length q) _ (transp Quiet (sym (append-assoc (pad madeSize m) (fromCopied c b) r)) (slots-quiet (A .made) _ (f .madeFits))) in
+      ap₂ (λ k w. slotsIn t a 1 k w (bodies (A .copied) ++ left) rest) small2 (front copiedSize copiedAt c (fromBodies b) r W from-copied)
+      ∙ ap {B = Entry} (λ p. slotsIn t a 1 (length (A .copied)) (c ++ (zeros (copiedSize - length c) ++ (fromBodies b ++ r))) (bodies (A .copied) ++ left) (flat encodeMessage p ++ rest)) (sym n)
       ∙ entities-shown t ws sp a copied 0 (A .copied) _ left rest (f .copiedFits) (omega arith) (omega arith) z
 
   pub actor-shown : actorIn t a W ≡ printActor ws a A
   unfolding actorIn entitiesIn printActor
   actor-shown =
-      rw (line-shown, made-shown, copied-shown, small3, front 96 528 i (r3 q m c b) r W at528, inbox-shown t ws sp (A .inbox) (zeros (96 - length i) ++ (r3 q m c b ++ r)) (f .inboxFits))
+      rw (line-shown, made-shown, copied-shown, small3, front queueSize inboxAt i (fromWaiting q m c b) r W from-inbox, inbox-shown t ws sp (A .inbox) (zeros (queueSize - length i) ++ (fromWaiting q m c b ++ r)) (f .inboxFits))
       (four (line _) (printEntities ws a made 0 (A .made)) (printEntities ws a copied 0 (A .copied)) (printInbox ws (A .inbox)))
 
 -- ---- all actors
@@ -185,12 +186,12 @@ unfolding actorsIn flat printActors
 actors-shown t ws sp a [] w f = refl
 actors-shown t ws sp a (A ∷ As) w f =
     let e = append-assoc (encodeActor A) (flat encodeActor As) w in
-    rw (e, actor-shown t ws sp a A (f .0) (flat encodeActor As ++ w) (encodeActor A ++ (flat encodeActor As ++ w)) refl, drop-at (encodeActor A) (flat encodeActor As ++ w) 3200 (actor-length A (f .0)), add-one, actors-shown t ws sp (suc a) As w (f .1))
+    rw (e, actor-shown t ws sp a A (f .0) (flat encodeActor As ++ w) (encodeActor A ++ (flat encodeActor As ++ w)) refl, drop-at (encodeActor A) (flat encodeActor As ++ w) partSize (actor-length A (f .0)), add-one, actors-shown t ws sp (suc a) As w (f .1))
 
 module _ (σ : State) (f : StateFits σ) (t : List ℕ) (is : t ≡ encode σ) where
-  words-at : t ≡ topWords σ f ++ (zeros (256 - length (topWords σ f)) ++ (pad 12800 (flat encodeActor (σ .actors)) ++ zeros 3328))
+  words-at : t ≡ topWords σ f ++ (zeros (headSize - length (topWords σ f)) ++ (pad partsSize (flat encodeActor (σ .actors)) ++ zeros tailSize))
   unfolding encode
-  words-at = is ∙ pad-front 256 (topWords σ f) _
+  words-at = is ∙ pad-front headSize (topWords σ f) _
 
   spells : Spells t (σ .words)
   spells = record {
@@ -199,12 +200,12 @@ module _ (σ : State) (f : StateFits σ) (t : List ℕ) (is : t ≡ encode σ) w
     entries = λ k i l h.
         let z : 2 + (3 * k + i) ≡ suc (suc (3 * k + i)) = omega arith in
         let n = length-flat encodeWord 3 (σ .words) (words-three (σ .words)) in
-        ap₂ (λ w j. getD w j 0) words-at z ∙ entry-at (σ .words) (256 - length (topWords σ f)) _ k i (omega (arith, f .wordCount)) h;
+        ap₂ (λ w j. getD w j 0) words-at z ∙ entry-at (σ .words) (headSize - length (topWords σ f)) _ k i (omega (arith, f .wordCount)) h;
   }
 
-  actors-at : drop 256 t ≡ flat encodeActor (σ .actors) ++ (zeros (12800 - length (flat encodeActor (σ .actors))) ++ zeros 3328)
+  actors-at : drop headSize t ≡ flat encodeActor (σ .actors) ++ (zeros (partsSize - length (flat encodeActor (σ .actors))) ++ zeros tailSize)
   unfolding encode
-  actors-at = ap (drop 256) is ∙ drop-pad 256 (topWords σ f) _ (head-words σ f) ∙ pad-front 12800 (flat encodeActor (σ .actors)) (zeros 3328)
+  actors-at = ap (drop headSize) is ∙ drop-pad headSize (topWords σ f) _ (head-words σ f) ∙ pad-front partsSize (flat encodeActor (σ .actors)) (zeros tailSize)
 
   count : getD t 0 0 % 5 ≡ length (σ .actors)
   count = let z : getD t 0 0 ≡ length (σ .actors) = ap (λ l. getD l 0 0) words-at in let l = f .actorCount in omega arith

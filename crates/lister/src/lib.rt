@@ -1,27 +1,38 @@
 // The listing of a state from its words. The same code measures the listing, into no text, and writes it. Words that are no
 // state are listed as some text too, so that nothing here fails.
+use layout::BODIES;
+use layout::BODIES_SIZE;
+use layout::COPIED;
+use layout::HEAD;
+use layout::HEADER;
+use layout::INBOX;
+use layout::MADE;
+use layout::NAME_LIMIT;
+use layout::NUMBER_LIMIT;
+use layout::PART;
+use layout::PAYLOAD;
+use layout::SLOT_UNIT;
+use layout::WAITING;
 use showing::Place;
 ghost use mathlib.Core.Path.{_≡_};
 ghost use mathlib.Core.List.{[], _∷_};
 ghost use Prim.Native.Nat.{_+_, _*_, _≤_, _<_};
 ghost use lib.ListN.{length, drop, getD};
+ghost use Rattle.layout.specs.Numbers.{ownerLimit, partSize, stateWords};
 ghost use Rattle.showing.specs.Writing.{Wrote};
 ghost use Rattle.lister.specs.Listed.{messageIn, aimIn, waitingIn, inboxIn, fieldsIn, kindIn, stateIn, entryIn, openingIn, partsIn, slotIn, slotsIn, spacedIn, titleIn, countsIn, exprIn, lineIn, entitiesIn, actorIn, actorsIn, listedIn};
 ghost use Rattle.lister.specs.Lists.{Lists};
 ghost use Rattle.showing.specs.Codes.{Showed};
 ghost use Rattle.lister.specs.Codes.{Slotted};
 
-// Where a word's kind stands.
-const PAYLOAD: u32 = 16777216;
-
 // The number that is no name.
-const NO_NAME: usize = 127;
+const NO_NAME: usize = layout::NO_NAME as usize;
 
 // A field's header with no name.
-const FIELD: u32 = 2147483648;
+const FIELD: u32 = HEADER;
 
 // No term has more words in one another.
-const DEEP: usize = 1536;
+const DEEP: usize = BODIES_SIZE;
 
 // Where to read methods and waiting messages, and where to write next.
 pub struct Spot {
@@ -38,14 +49,14 @@ fn aim(t: &[u32], at: usize) -> u32
         return 0;
     }
     if t[at] / PAYLOAD == 3 {
-        return t[at] % 65536;
+        return t[at] % NUMBER_LIMIT;
     }
     0
 }
 
 // The message at `at`.
 fn show_message(t: &[u32], at: usize, out: &mut [u8], o: usize) -> usize
-    requires { ⌜ (o ≤ 1099511627776) × (length (now t) ≡ 16384) × (at < 16384) ⌝ }
+    requires { ⌜ (o ≤ 1099511627776) × (length (now t) ≡ stateWords) × (at < stateWords) ⌝ }
     ensures { λ r. ⌜ Wrote (now (out .entry)) o (messageIn (now (t .entry)) (drop at (now (t .entry)))) (now (out .exit)) r ⌝ }
 {
     let h = t[at];
@@ -53,8 +64,8 @@ fn show_message(t: &[u32], at: usize, out: &mut [u8], o: usize) -> usize
     let r = showing::show_operands(
         t,
         at + 1,
-        (h % 512) as usize,
-        (1 + h / 512 % 8) as usize,
+        (h % SLOT_UNIT) as usize,
+        (1 + h / SLOT_UNIT % 8) as usize,
         out,
         p,
         1,
@@ -65,7 +76,7 @@ fn show_message(t: &[u32], at: usize, out: &mut [u8], o: usize) -> usize
 // The messages at `at` to the entity `n`, at most `left`, each behind a space. Behind the last one stand zeros or a slot, whose
 // words have another kind, so no count is needed.
 fn show_waiting(t: &[u32], at: usize, n: u32, out: &mut [u8], o: usize, left: usize) -> Place
-    requires { ⌜ (o ≤ 1099511627776) × (length (now t) ≡ 16384) × (left ≤ 16) ⌝ }
+    requires { ⌜ (o ≤ 1099511627776) × (length (now t) ≡ stateWords) × (left ≤ 16) ⌝ }
     ensures { λ r. ⌜ Showed (now (t .entry)) (waitingIn (now (t .entry)) left n (drop at (now (t .entry)))) (now (out .entry)) o (now (out .exit)) (r .at) (r .o) ⌝ }
 {
     if left == 0 {
@@ -87,7 +98,7 @@ fn show_waiting(t: &[u32], at: usize, n: u32, out: &mut [u8], o: usize, left: us
 
 // The `n` messages of an inbox, each a line.
 fn show_inbox(t: &[u32], n: usize, at: usize, out: &mut [u8], o: usize) -> usize
-    requires { ⌜ (o ≤ 1099511627776) × (length (now t) ≡ 16384) × (at + 6 * n ≤ 16384) ⌝ }
+    requires { ⌜ (o ≤ 1099511627776) × (length (now t) ≡ stateWords) × (at + 6 * n ≤ stateWords) ⌝ }
     ensures { λ r. ⌜ Wrote (now (out .entry)) o (inboxIn (now (t .entry)) n (drop at (now (t .entry)))) (now (out .exit)) r ⌝ }
 {
     if n == 0 {
@@ -100,15 +111,15 @@ fn show_inbox(t: &[u32], n: usize, at: usize, out: &mut [u8], o: usize) -> usize
 
 // The `n` fields with names in `x` and values at `at`, each behind a space.
 fn show_fields(t: &[u32], n: usize, x: u32, at: usize, out: &mut [u8], o: usize) -> usize
-    requires { ⌜ (o ≤ 1099511627776) × (length (now t) ≡ 16384) ⌝ }
+    requires { ⌜ (o ≤ 1099511627776) × (length (now t) ≡ stateWords) ⌝ }
     ensures { λ r. ⌜ Wrote (now (out .entry)) o (fieldsIn (now (t .entry)) n x (drop at (now (t .entry)))) (now (out .exit)) r ⌝ }
 {
     if n == 0 {
         return o;
     }
     let p = showing::put(b' ', out, o);
-    let r = showing::show_form(t, FIELD + x % 128, at, out, p, 1);
-    show_fields(t, n - 1, x / 128, r.at, out, r.o)
+    let r = showing::show_form(t, FIELD + x % NAME_LIMIT, at, out, p, 1);
+    show_fields(t, n - 1, x / NAME_LIMIT, r.at, out, r.o)
 }
 
 // A bracket and the kind of an entity.
@@ -126,7 +137,7 @@ fn put_kind(k: u32, out: &mut [u8], o: usize) -> usize
 
 // What a future or a resolver of kind `k` has behind its number.
 fn put_state(t: &[u32], k: u32, v: u32, out: &mut [u8], o: usize) -> usize
-    requires { ⌜ (o ≤ 1099511627776) × (length (now t) ≡ 16384) ⌝ }
+    requires { ⌜ (o ≤ 1099511627776) × (length (now t) ≡ stateWords) ⌝ }
     ensures { λ r. ⌜ Wrote (now (out .entry)) o (stateIn (now (t .entry)) k v) (now (out .exit)) r ⌝ }
 {
     if k == 3 {
@@ -145,7 +156,7 @@ fn put_state(t: &[u32], k: u32, v: u32, out: &mut [u8], o: usize) -> usize
 
 // The kind and the owner of an entity.
 fn put_entry(k: u32, a: u32, out: &mut [u8], o: usize) -> usize
-    requires { ⌜ (o ≤ 1099511627776) × (a < 128) ⌝ }
+    requires { ⌜ (o ≤ 1099511627776) × (a < ownerLimit) ⌝ }
     ensures { λ r. ⌜ Wrote (now (out .entry)) o (entryIn k a) (now (out .exit)) r ⌝ }
 {
     let p = put_kind(k, out, o);
@@ -154,12 +165,12 @@ fn put_entry(k: u32, a: u32, out: &mut [u8], o: usize) -> usize
 
 // The opening of the slot of head `h`, with `v` in its first place.
 fn put_opening(t: &[u32], a: u32, s: u32, h: u32, v: u32, out: &mut [u8], o: usize) -> usize
-    requires { ⌜ (o ≤ 1099511627776) × (length (now t) ≡ 16384) × (a < 128) ⌝ }
+    requires { ⌜ (o ≤ 1099511627776) × (length (now t) ≡ stateWords) × (a < ownerLimit) ⌝ }
     ensures { λ r. ⌜ Wrote (now (out .entry)) o (openingIn (now (t .entry)) a s h v) (now (out .exit)) r ⌝ }
 {
     let b = put_entry(h % 8, a, out, o);
     let c = showing::put_series(s, out, b);
-    let d = showing::put_number(h / 512, out, c);
+    let d = showing::put_number(h / SLOT_UNIT, out, c);
     put_state(t, h % 8, v, out, d)
 }
 
@@ -183,12 +194,12 @@ fn show_parts(
     out: &mut [u8],
     o: usize,
 ) -> Spot
-    requires { ⌜ (o ≤ 1099511627776) × (length (now t) ≡ 16384) ⌝ }
+    requires { ⌜ (o ≤ 1099511627776) × (length (now t) ≡ stateWords) ⌝ }
     ensures { λ r. ⌜ Slotted (now (t .entry)) (partsIn (now (t .entry)) h x (drop at (now (t .entry))) (drop body (now (t .entry))) (drop wait (now (t .entry)))) (now (out .entry)) o (now (out .exit)) (r .body) (r .wait) (r .o) ⌝ }
 {
     let a = show_fields(t, (h / 8 % 8) as usize, x, at, out, o);
     let m = showing::show_operands(t, body, NO_NAME, (h / 64 % 8) as usize, out, a, DEEP);
-    let u = show_waiting(t, wait, h / 512, out, m.o, 16);
+    let u = show_waiting(t, wait, h / SLOT_UNIT, out, m.o, 16);
     let p = put_end(out, u.o);
     Spot {
         body: m.at,
@@ -208,7 +219,7 @@ fn show_slot(
     out: &mut [u8],
     o: usize,
 ) -> Spot
-    requires { ⌜ (o ≤ 1099511627776) × (length (now t) ≡ 16384) × (a < 128) × (at + 8 ≤ 16384) ⌝ }
+    requires { ⌜ (o ≤ 1099511627776) × (length (now t) ≡ stateWords) × (a < ownerLimit) × (at + 8 ≤ stateWords) ⌝ }
     ensures { λ r. ⌜ Slotted (now (t .entry)) (slotIn (now (t .entry)) a s (drop at (now (t .entry))) (drop body (now (t .entry))) (drop wait (now (t .entry)))) (now (out .entry)) o (now (out .exit)) (r .body) (r .wait) (r .o) ⌝ }
 {
     let p = put_opening(t, a, s, t[at], t[at + 2], out, o);
@@ -227,7 +238,7 @@ fn show_slots(
     out: &mut [u8],
     o: usize,
 ) -> Spot
-    requires { ⌜ (o ≤ 1099511627776) × (length (now t) ≡ 16384) × (a < 128) × (at + 8 * n ≤ 16384) ⌝ }
+    requires { ⌜ (o ≤ 1099511627776) × (length (now t) ≡ stateWords) × (a < ownerLimit) × (at + 8 * n ≤ stateWords) ⌝ }
     ensures { λ r. ⌜ Slotted (now (t .entry)) (slotsIn (now (t .entry)) a s n (drop at (now (t .entry))) (drop body (now (t .entry))) (drop wait (now (t .entry)))) (now (out .entry)) o (now (out .exit)) (r .body) (r .wait) (r .o) ⌝ }
 {
     if n == 0 {
@@ -252,7 +263,7 @@ fn put_spaced(n: u32, out: &mut [u8], o: usize) -> usize
 
 // A bracket and the actor's number.
 fn put_title(a: u32, out: &mut [u8], o: usize) -> usize
-    requires { ⌜ (o ≤ 1099511627776) × (a < 128) ⌝ }
+    requires { ⌜ (o ≤ 1099511627776) × (a < ownerLimit) ⌝ }
     ensures { λ r. ⌜ Wrote (now (out .entry)) o (titleIn a) (now (out .exit)) r ⌝ }
 {
     let p = showing::put_bytes(b"(actor", out, o);
@@ -261,7 +272,7 @@ fn put_title(a: u32, out: &mut [u8], o: usize) -> usize
 
 // An actor's moves and the lengths of its two series.
 fn put_counts(t: &[u32], at: usize, out: &mut [u8], o: usize) -> usize
-    requires { ⌜ (o ≤ 1099511627776) × (length (now t) ≡ 16384) × (at + 3200 ≤ 16384) ⌝ }
+    requires { ⌜ (o ≤ 1099511627776) × (length (now t) ≡ stateWords) × (at + partSize ≤ stateWords) ⌝ }
     ensures { λ r. ⌜ Wrote (now (out .entry)) o (countsIn (drop at (now (t .entry)))) (now (out .exit)) r ⌝ }
 {
     let a = put_spaced(t[at] % PAYLOAD, out, o);
@@ -271,7 +282,7 @@ fn put_counts(t: &[u32], at: usize, out: &mut [u8], o: usize) -> usize
 
 // The expression at `at`, and the end of its actor's line.
 fn show_expr(t: &[u32], at: usize, out: &mut [u8], o: usize) -> usize
-    requires { ⌜ (o ≤ 1099511627776) × (length (now t) ≡ 16384) ⌝ }
+    requires { ⌜ (o ≤ 1099511627776) × (length (now t) ≡ stateWords) ⌝ }
     ensures { λ r. ⌜ Wrote (now (out .entry)) o (exprIn (now (t .entry)) (drop at (now (t .entry)))) (now (out .exit)) r ⌝ }
 {
     let p = showing::put(b' ', out, o);
@@ -281,7 +292,7 @@ fn show_expr(t: &[u32], at: usize, out: &mut [u8], o: usize) -> usize
 
 // The line of the actor `a`, whose part begins at `at`.
 fn show_line(t: &[u32], a: u32, at: usize, out: &mut [u8], o: usize) -> usize
-    requires { ⌜ (o ≤ 1099511627776) × (length (now t) ≡ 16384) × (a < 128) × (at + 3200 ≤ 16384) ⌝ }
+    requires { ⌜ (o ≤ 1099511627776) × (length (now t) ≡ stateWords) × (a < ownerLimit) × (at + partSize ≤ stateWords) ⌝ }
     ensures { λ r. ⌜ Wrote (now (out .entry)) o (lineIn (now (t .entry)) a (drop at (now (t .entry)))) (now (out .exit)) r ⌝ }
 {
     let p = put_title(a, out, o);
@@ -291,51 +302,51 @@ fn show_line(t: &[u32], a: u32, at: usize, out: &mut [u8], o: usize) -> usize
 
 // The entities of both series. Their counts are cut, at more than a state can have, so that words that are no state stay in range.
 fn show_entities(t: &[u32], a: u32, at: usize, out: &mut [u8], o: usize) -> usize
-    requires { ⌜ (o ≤ 1099511627776) × (length (now t) ≡ 16384) × (a < 128) × (at + 3200 ≤ 16384) ⌝ }
+    requires { ⌜ (o ≤ 1099511627776) × (length (now t) ≡ stateWords) × (a < ownerLimit) × (at + partSize ≤ stateWords) ⌝ }
     ensures { λ r. ⌜ Wrote (now (out .entry)) o (entitiesIn (now (t .entry)) a (drop at (now (t .entry)))) (now (out .exit)) r ⌝ }
 {
     let n = (t[at + 1] % 64) as usize;
     let k = (t[at + 2] % 32) as usize;
-    let m = show_slots(t, a, 0, n, at + 720, at + 1104, at + 624, out, o);
-    let c = show_slots(t, a, 1, k, at + 976, m.body, m.wait, out, m.o);
+    let m = show_slots(t, a, 0, n, at + MADE, at + BODIES, at + WAITING, out, o);
+    let c = show_slots(t, a, 1, k, at + COPIED, m.body, m.wait, out, m.o);
     c.o
 }
 
 // The line of the actor `a`, its entities and its inbox.
 fn show_actor(t: &[u32], a: u32, at: usize, out: &mut [u8], o: usize) -> usize
-    requires { ⌜ (o ≤ 1099511627776) × (length (now t) ≡ 16384) × (a < 128) × (at + 3200 ≤ 16384) ⌝ }
+    requires { ⌜ (o ≤ 1099511627776) × (length (now t) ≡ stateWords) × (a < ownerLimit) × (at + partSize ≤ stateWords) ⌝ }
     ensures { λ r. ⌜ Wrote (now (out .entry)) o (actorIn (now (t .entry)) a (drop at (now (t .entry)))) (now (out .exit)) r ⌝ }
 {
     let n = (t[at + 3] % 32) as usize;
     let p = show_line(t, a, at, out, o);
     let q = show_entities(t, a, at, out, p);
-    show_inbox(t, n, at + 528, out, q)
+    show_inbox(t, n, at + INBOX, out, q)
 }
 
 // The `n` actors from the number `a` on.
 fn show_actors(t: &[u32], a: u32, n: usize, at: usize, out: &mut [u8], o: usize) -> usize
-    requires { ⌜ (o ≤ 1099511627776) × (length (now t) ≡ 16384) × (a + n < 128) × (at + 3200 * n ≤ 16384) ⌝ }
+    requires { ⌜ (o ≤ 1099511627776) × (length (now t) ≡ stateWords) × (a + n < ownerLimit) × (at + partSize * n ≤ stateWords) ⌝ }
     ensures { λ r. ⌜ Wrote (now (out .entry)) o (actorsIn (now (t .entry)) a n (drop at (now (t .entry)))) (now (out .exit)) r ⌝ }
 {
     if n == 0 {
         return o;
     }
     let p = show_actor(t, a, at, out, o);
-    show_actors(t, a + 1, n - 1, at + 3200, out, p)
+    show_actors(t, a + 1, n - 1, at + PART, out, p)
 }
 
 // All actors of the words `t`.
 fn list_all(t: &[u32], out: &mut [u8]) -> usize
-    requires { ⌜ length (now t) ≡ 16384 ⌝ }
+    requires { ⌜ length (now t) ≡ stateWords ⌝ }
     ensures { λ r. ⌜ Wrote (now (out .entry)) 0 (listedIn (now (t .entry))) (now (out .exit)) r ⌝ }
 {
     let n = (t[0] % 5) as usize;
-    show_actors(t, 0, n, 256, out, 0)
+    show_actors(t, 0, n, HEAD, out, 0)
 }
 
 // Lists the state whose words `state` begins with, as far as `out` has room, and returns the listing's length.
 pub fn list_words(state: &[u32], out: &mut [u8]) -> usize
-    requires { ⌜ 16384 ≤ length (now state) ⌝ }
+    requires { ⌜ stateWords ≤ length (now state) ⌝ }
     ensures { λ r. ⌜ Lists (now (state .entry)) (now (out .entry)) (now (out .exit)) r ⌝ }
 {
     list_all(&state[..16384], out)

@@ -7,13 +7,13 @@ use native.Mathlib.Omega.{arith}
 use borrow.Author.Tests.{lt-ltb, le-ltb, ne-eqb, ltb-false}
 use lib.Dec.{ltb}
 use Rattle.atlite.specs.Term.{this, ·t, ·f, ·r, ·s}
+use Rattle.layout.specs.Numbers.{payload, fieldKind, nameLimit, tagLimit}
 use Rattle.layout.specs.Pack.{node}
-use Rattle.layout.specs.Terms.{variable}
+use Rattle.layout.specs.Terms.{variable, binding}
 use Rattle.layout.specs.Kinds.{Kinds}
 use Rattle.layout.specs.Arity.{arity, arity-header}
-use Rattle.showing.specs.Shown.{payload}
 use Rattle.loading.specs.Ranges.{past, over, under}
-use Rattle.loading.specs.Emitted.{binding, closureWords, askWords, before, after, inner}
+use Rattle.loading.specs.Emitted.{closureWords, askWords, before, after, inner}
 use Rattle.loading.specs.Expands.{Brings}
 
 module _ (z : ℕ) where
@@ -44,7 +44,7 @@ module _ (z : ℕ) where
       back = simp (under u);
     }
 
-    pub brings-header : 128 ≤ h / payload → (h / payload ≡ 130 → ⊥) → Brings z h (h ∷ []) z 1 []
+    pub brings-header : fieldKind ≤ h / payload → (h / payload ≡ 130 → ⊥) → Brings z h (h ∷ []) z 1 []
     unfolding before inner after
     brings-header l n = record {
       isForm = omega arith;
@@ -54,7 +54,7 @@ module _ (z : ℕ) where
       back = simp (over l);
     }
 
-    pub brings-definition : (x : ℕ) → h / payload ≡ 130 → h % 128 ≡ x → Brings z h (binding x ∷ []) z 1 []
+    pub brings-definition : (x : ℕ) → h / payload ≡ 130 → h % nameLimit ≡ x → Brings z h (binding x ∷ []) z 1 []
     unfolding before inner after
     brings-definition x e f = record {
       isForm = omega arith;
@@ -64,7 +64,7 @@ module _ (z : ℕ) where
       back = rw e;
     }
 
-    pub brings-fn : (x : ℕ) → h / payload ≡ 65 → h % 128 ≡ x → Brings z h (closureWords z x) (variable ·t) 1 []
+    pub brings-fn : (x : ℕ) → h / payload ≡ 65 → h % nameLimit ≡ x → Brings z h (closureWords z x) (variable ·t) 1 []
     unfolding before inner after arity Kinds
     brings-fn x e f = record {
       isForm = omega arith;
@@ -74,7 +74,7 @@ module _ (z : ℕ) where
       back = rw e;
     }
 
-    pub brings-ask : (n : ℕ) → h / payload ≡ 64 → h % payload / 128 / 4 ≡ n → Brings z h (askWords h) z (suc n) (variable ·r ∷ variable ·f ∷ [])
+    pub brings-ask : (n : ℕ) → h / payload ≡ 64 → h % payload / nameLimit / tagLimit ≡ n → Brings z h (askWords h) z (suc n) (variable ·r ∷ variable ·f ∷ [])
     unfolding before inner after arity Kinds
     brings-ask n e f = record {
       isForm = omega arith;

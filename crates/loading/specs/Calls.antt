@@ -10,10 +10,10 @@ use Rattle.atlite.specs.State.{State}
 use Rattle.atlite.specs.Table.{Table, IsTable}
 use Rattle.atlite.specs.Load.{load}
 use Rattle.invariant.specs.Loads.{load-keeps}
-use Rattle.layout.specs.Layout.{stateWords}
+use Rattle.layout.specs.Numbers.{stateWords, tableWords}
 use Rattle.layout.specs.Holds.{state-fits}
 use Rattle.layout.specs.Whole.{encode-length}
-use Rattle.layout.specs.Tables.{tableWords, encodeTable}
+use Rattle.layout.specs.Tables.{encodeTable}
 use Rattle.layout.specs.TableLaws.{table-of-iff}
 use Rattle.layout.specs.Meaning.{answered, tableIn, loadCall}
 use Rattle.layout.specs.Outcomes.{room-enough}

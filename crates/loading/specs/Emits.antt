@@ -13,21 +13,21 @@ use Rattle.atlite.specs.Script.{SrcOp, kept, ask, resolve, Src, num, null, var,
 use Rattle.atlite.specs.Expansion.{asking, ofTwo}
 use Rattle.atlite.specs.Valid.{operable}
 use Rattle.atlite.specs.Table.{countFields, countMethods, Grammatical, GrammaticalAll, GrammaticalFields, GrammaticalMethods, writable}
+use Rattle.layout.specs.Numbers.{payload, nameLimit, taggedLimit}
 use Rattle.layout.specs.Pack.{node}
 use Rattle.reading.specs.Items.{send-few}
 use Rattle.layout.specs.Fitting.{name-fits, shape-fits}
 use Rattle.layout.specs.TableReads.{variable-named}
-use Rattle.layout.specs.Terms.{opKind, opNode, countMethods as countBodies, variable, tagged, asked, kindNumber, fieldHeader, methodHeader, encodeTerm, encodeTerms, encodeInits, encodeMethods, encodeValue, countInits}
+use Rattle.layout.specs.Terms.{opKind, opNode, countMethods as countBodies, variable, tagged, asked, kindNumber, fieldHeader, methodHeader, encodeTerm, encodeTerms, encodeInits, encodeMethods, encodeValue, countInits, nullWord, binding, objectWord, sendRegister}
 use Rattle.layout.specs.Tables.{encodeSrc, encodeSrcs, encodeFields, encodeSrcMethods}
 use Rattle.layout.specs.TermReads.{label-small}
 use Rattle.layout.specs.Kinds.{op-kind}
 use Rattle.layout.specs.Parse.{unary, binary, many, parts}
 use Rattle.layout.specs.ParseHeads.{head-op, head-let, head-future, head-literal}
 use Rattle.layout.specs.Arity.{head-wants}
-use Rattle.showing.specs.Shown.{payload}
 use Rattle.printer.specs.Nesting.{nesting, nestingAll, nestingFields, nestingMethods}
 use Rattle.loading.specs.Expanding.{resolvingFor, expandOpWith, Self, outside, held, itself, selfTerm, closure, expandWith, expandAllWith, expandFieldsWith, expandMethodsWith}
-use Rattle.loading.specs.Emitted.{nullWord, binding, objectWord, sendRegister, leafIn, closureWords, askWords, resolverWords, waiterWords}
+use Rattle.loading.specs.Emitted.{leafIn, closureWords, askWords, resolverWords, waiterWords}
 use Rattle.loading.specs.Expands.{One, Many, Brings, many-none, many-cons, many-join, many-one, many-two, one-same, one-leaf, one-form, one-front, one-resolve, one-when}
 use Rattle.loading.specs.Brought.{brings-copy, brings-literal, brings-header, brings-fn, brings-ask, brings-seq}
 
@@ -44,7 +44,7 @@ self-words held = refl
 self-words itself = refl
 
 -- a variable
-variable-one : (n x : ℕ) (s : Self) → 0 < n → x < 128 → One n (selfWord s) (node 6 x ∷ []) (encodeTerm (expandWith (var x) s))
+variable-one : (n x : ℕ) (s : Self) → 0 < n → x < nameLimit → One n (selfWord s) (node 6 x ∷ []) (encodeTerm (expandWith (var x) s))
 unfolding expandWith encodeTerm if_then_else_ leafIn
 variable-one n x s d l = go (eqb this x) refl
   where
@@ -53,7 +53,7 @@ variable-one n x s d l = go (eqb this x) refl
         let z : x ≡ 0 = sym (eqb-true this x e) in
         transp (λ y. One n (selfWord s) (node 6 y ∷ []) (encodeTerm (selfTerm s))) (sym z)
         (one-same n (selfWord s) _ _ _ (sym (self-words s)) (one-leaf (selfWord s) (node 6 0) n (selfWord s) d (omega arith) refl))
-    go false e = one-leaf (selfWord s) (node 6 x) n _ d (omega arith) (rw (ne-eqb (x + 16777216 * 6) (variable this) (λ f. eqb-false this x e (omega arith))))
+    go false e = one-leaf (selfWord s) (node 6 x) n _ d (omega arith) (rw (ne-eqb (x + payload * 6) (variable this) (λ f. eqb-false this x e (omega arith))))
 
 -- ---- lists
 all-count : (es : Srcs) (s : Self) → countTerms (expandAllWith es s) ≡ countSrcs es
@@ -100,11 +100,11 @@ module _ (s : Self) where
   unfolding expandWith encodeTerm waiterWords tagged countTerms
   when-words x a b = rw (closure-words s x (op (call Name.resolve) (both (var ·r) (expandWith b held)))) (simp (append-assoc, append-nil))
 
-  ask-words : (m : ℕ) (es : Srcs) (n : ℕ) → countSrcs es ≡ suc n → m < 128 → n ≤ 3
+  ask-words : (m : ℕ) (es : Srcs) (n : ℕ) → countSrcs es ≡ suc n → m < nameLimit → n ≤ 3
       → askWords (node 64 (asked (plain m) n)) ++ (encodeTerms (expandAllWith es s) ++ (variable ·r ∷ variable ·f ∷ [])) ≡ encodeTerm (asking m (expandAllWith es s))
   unfolding asking encodeTerm askWords tagged
   ask-words m es n e l k =
-      let h : (m + 128 * 0 + 512 * n + 16777216 * 64) % payload + 128 + 512 + 16777216 * 14 ≡ m + 128 * 1 + 512 * suc n + 16777216 * 14 = omega arith in
+      let h : (m + nameLimit * 0 + taggedLimit * n + payload * 64) % payload + nameLimit + taggedLimit + payload * 14 ≡ m + nameLimit * 1 + taggedLimit * suc n + payload * 14 = omega arith in
       rw (h, last-count (expandAllWith es s) ·r, last-words (expandAllWith es s) ·r, all-count es s, e)
       (simp append-assoc)
 
@@ -187,7 +187,7 @@ module _ (w : ℕ) (l : w ≤ 64) where
     unfolding encodeSrc encodeTerm encodeValue expandWith Grammatical nesting countFields countMethods Each selfWord leafIn
 
     pub emit-src : (e : Src) (n : ℕ) (s : Self) → Grammatical w e → nesting e < n → One n (selfWord s) (encodeSrc e) (encodeTerm (expandWith e s))
-    emit-src (num m) n s g d = one-leaf (selfWord s) (node 2 m) n _ (omega arith) (omega (arith, g)) (rw (ne-eqb (m + 16777216 * 2) (variable this) (λ e. omega (arith, g))))
+    emit-src (num m) n s g d = one-leaf (selfWord s) (node 2 m) n _ (omega arith) (omega (arith, g)) (rw (ne-eqb (m + payload * 2) (variable this) (λ e. omega (arith, g))))
     emit-src null n s g d = one-leaf (selfWord s) (node 1 0) n _ (omega arith) (omega arith) refl
     emit-src (var x) n s g d = let f = variable-named w l x g in variable-one n x s (omega arith) (omega arith)
     emit-src (op o es) n s g d = op-one o es n s (g .0) (omega arith) (emit-each es (n - 1) s (g .1) (omega arith))
@@ -199,7 +199,7 @@ module _ (w : ℕ) (l : w ≤ 64) where
     emit-src (future x y e) n s g d =
         let f = name-fits w l x (g .0) in
         let f′ = name-fits w l y (g .1) in
-        let h = node 12 (x + 128 * y) in
+        let h = node 12 (x + nameLimit * y) in
         one-front (selfWord s) h n 1 (selfWord s) (h ∷ []) _ _ (omega arith) (brings-copy (selfWord s) h 1 (omega arith) (omega arith) (λ z. omega arith) (λ z. omega arith) (λ z. omega arith) (head-wants _ (unary (λ e. Term.future x y e)) (head-future x f y f′) .0))
         (many-one (n - 1) (selfWord s) _ _ (emit-src e (n - 1) s (g .2) (omega arith)))
     emit-src (fn x e) n s g d =

@@ -11,12 +11,12 @@ use borrow.Author.Tests.{lt-ltb, le-ltb, ne-eqb}
 use lib.ListN.{length, length-append}
 use lib.Seq.{drop-at}
 use Rattle.atlite.specs.Term.{·t, ·f, ·r, ·l, ·s}
-use Rattle.layout.specs.Terms.{variable}
+use Rattle.layout.specs.Numbers.{payload, nameLimit}
+use Rattle.layout.specs.Terms.{variable, binding, sendRegister}
 use Rattle.layout.specs.Kinds.{Kinds}
 use Rattle.layout.specs.Arity.{arity, ends, ends-none}
 use Rattle.layout.specs.KindLaws.{arity-leaf}
-use Rattle.showing.specs.Shown.{payload}
-use Rattle.loading.specs.Emitted.{binding, sendRegister, leafIn, resolverWords, waiterWords, before, after, inner, Words, emits, operandsIn, formIn, resolveIn, whenIn, emitted}
+use Rattle.loading.specs.Emitted.{leafIn, resolverWords, waiterWords, before, after, inner, Words, emits, operandsIn, formIn, resolveIn, whenIn, emitted}
 
 pub record One (n z : ℕ) (w s : List ℕ) : Type 0 where
   pub put : (r : List ℕ) → emitted n z (w ++ r) ≡ emits s r
@@ -126,7 +126,7 @@ module _ (z h : ℕ) where
           past = passed 2 (w ++ v) (rw e) (many-two n z w s v u a′ b′ .past);
         }
 
-    pub one-when : (n : ℕ) → 0 < n → (x : ℕ) → h / payload ≡ 67 → h % 128 ≡ x → One (n - 1) z w s → One (n - 1) (variable ·t) v u
+    pub one-when : (n : ℕ) → 0 < n → (x : ℕ) → h / payload ≡ 67 → h % nameLimit ≡ x → One (n - 1) z w s → One (n - 1) (variable ·t) v u
         → One n z (h ∷ (w ++ v)) (waiterWords z x ++ (u ++ ((binding ·s ∷ sendRegister ∷ []) ++ (s ++ (variable ·l ∷ variable ·f ∷ [])))))
     unfolding emitted whenIn arity Kinds
     one-when zero d x e f a b = absurd (omega arith)

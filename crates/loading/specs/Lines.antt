@@ -12,16 +12,16 @@ use Rattle.atlite.specs.Script.{seq, Src, num, null, var, op, letIn, future, fn
 use Rattle.atlite.specs.Expansion.{ofTwo}
 use Rattle.atlite.specs.Table.{countFields, countMethods, Grammatical, GrammaticalLines}
 use Rattle.atlite.specs.Facts.{refused-done}
+use Rattle.layout.specs.Numbers.{payload, nameLimit, noName}
 use Rattle.layout.specs.Pack.{node, flat}
 use Rattle.layout.specs.Fitting.{name-fits}
 use Rattle.layout.specs.Kinds.{kind-small}
 use Rattle.layout.specs.TableReads.{variable-named, src-kind-small, src-payload-small}
-use Rattle.layout.specs.Terms.{kindNumber, encodeTerm}
+use Rattle.layout.specs.Terms.{kindNumber, encodeTerm, nullWord, binding}
 use Rattle.layout.specs.Tables.{srcKind, srcPayload, encodeSrc, definitionHeader, encodeLine}
-use Rattle.showing.specs.Shown.{payload}
 use Rattle.printer.specs.Nesting.{nesting, nestingLine, nestingLines}
 use Rattle.loading.specs.Expanding.{outside, expandOpWith, expandWith}
-use Rattle.loading.specs.Emitted.{nullWord, binding, emitted, leadIn, linesIn}
+use Rattle.loading.specs.Emitted.{emitted, leadIn, linesIn}
 use Rattle.loading.specs.Expands.{One, many-one, one-front}
 use Rattle.loading.specs.Brought.{brings-definition}
 use Rattle.loading.specs.Emits.{selfWord, emit-src}
@@ -45,7 +45,7 @@ module _ (w : ℕ) (few : w ≤ 64) where
       let f = src-payload-small w few o (countSrcs es) (g .0) in
       leads (node (srcKind o) (srcPayload o (countSrcs es))) _ (omega arith)
   src-leads (letIn x a b) g = let f = name-fits w few x (g .0) in leads (node 11 x) _ (omega arith)
-  src-leads (future x y e) g = let f = name-fits w few x (g .0) in let f′ = name-fits w few y (g .1) in leads (node 12 (x + 128 * y)) _ (omega arith)
+  src-leads (future x y e) g = let f = name-fits w few x (g .0) in let f′ = name-fits w few y (g .1) in leads (node 12 (x + nameLimit * y)) _ (omega arith)
   src-leads (fn x e) g = let f = name-fits w few x (g .0) in leads (node 65 x) _ (omega arith)
   src-leads (when a x b) g = let f = name-fits w few x (g .1) in leads (node 67 x) _ (omega arith)
   src-leads (literal k fs ms) g =
@@ -59,16 +59,16 @@ module _ (w : ℕ) (few : w ≤ 64) where
   unfolding selfWord
   line-one e g d = emit-src w few e 33 outside g (omega arith)
 
-  definition-one : (x : ℕ) (e : Src) → x < 127 → Grammatical w e → nesting e ≤ 31
+  definition-one : (x : ℕ) (e : Src) → x < noName → Grammatical w e → nesting e ≤ 31
       → One 33 nullWord (definitionHeader x ∷ encodeSrc e) (binding x ∷ encodeTerm (expandWith e outside))
   unfolding selfWord
   definition-one x e f g d =
       one-front nullWord (definitionHeader x) 33 1 nullWord (binding x ∷ []) _ _ (omega arith) (brings-definition nullWord (definitionHeader x) x (omega arith) (omega arith))
       (many-one 32 nullWord _ _ (emit-src w few e 32 outside g (omega arith)))
 
-  definition-leads : (x : ℕ) (e : List ℕ) → x < 127 → (r : List ℕ) → leadIn ((definitionHeader x ∷ e) ++ r) ≡ []
+  definition-leads : (x : ℕ) (e : List ℕ) → x < noName → (r : List ℕ) → leadIn ((definitionHeader x ∷ e) ++ r) ≡ []
   unfolding leadIn
-  definition-leads x e f r = let z : (x + 16777216 * 130) / payload ≡ 130 = omega arith in rw z
+  definition-leads x e f r = let z : (x + payload * 130) / payload ≡ 130 = omega arith in rw z
 
   -- ---- lines
   -- A line before others: its words a with what stands before them are, around what the lines below mean, what F makes of that.

@@ -24,6 +24,7 @@ use Rattle.atlite.specs.Facts.{refused-done}
 use Rattle.reading.specs.Exact.{table-words}
 use Rattle.invariant.specs.Loads.{joined, script-closed}
 use Rattle.invariant.specs.TermTests.{Is, wf-from}
+use Rattle.layout.specs.Numbers.{exprSize, madeSize, stateWords, linesAt, linesSize, tableWords}
 use Rattle.layout.specs.Pack.{zeros, pad, flat}
 use Rattle.layout.specs.PackLaws.{length-flat, length-pad, drop-pad}
 use Rattle.layout.specs.Writes.{zeros-split}
@@ -45,10 +46,10 @@ use Rattle.loading.specs.Loaded.{Loaded, LoadsWords, Loads}
 
 -- ---- a table's words
 -- the first 192 of more words, of which few are not zero
-padded-run : (a b c : ℕ) (w r : List ℕ) → length w ≤ 192 → slice 3 195 (pad 256 (a ∷ b ∷ c ∷ w) ++ r) ≡ pad 192 w
+padded-run : (a b c : ℕ) (w r : List ℕ) → length w ≤ 192 → slice 3 195 (pad linesAt (a ∷ b ∷ c ∷ w) ++ r) ≡ pad 192 w
 unfolding pad
 padded-run a b c w r h =
-    let k : 256 - suc (suc (suc (length w))) ≡ (192 - length w) + 61 = omega arith in
+    let k : linesAt - suc (suc (suc (length w))) ≡ (192 - length w) + 61 = omega arith in
     ap {B = List ℕ} (λ j. take 192 ((w ++ zeros j) ++ r)) k
     ∙ ap {B = List ℕ} (λ v. take 192 ((w ++ v) ++ r)) (zeros-split (192 - length w) 61)
     ∙ ap {B = List ℕ} (λ v. take 192 v) (three-parts w (zeros (192 - length w)) (zeros 61) r)
@@ -57,7 +58,7 @@ padded-run a b c w r h =
     three-parts : (a b c r : List ℕ) → (a ++ (b ++ c)) ++ r ≡ (a ++ b) ++ (c ++ r)
     three-parts a b c r = simp append-assoc
 
-padded : (w : List ℕ) → pad 1024 w ≡ w ++ zeros (1024 - length w)
+padded : (w : List ℕ) → pad linesSize w ≡ w ++ zeros (linesSize - length w)
 unfolding pad
 padded w = refl
 
@@ -76,9 +77,9 @@ module _ (T : Table) (i : IsTable T) where
   unfolding encodeTable pad
   line-count = refl
 
-  line-words : drop 256 (encodeTable T) ≡ flat encodeLine (T .lines) ++ zeros (1024 - length (flat encodeLine (T .lines)))
+  line-words : drop linesAt (encodeTable T) ≡ flat encodeLine (T .lines) ++ zeros (linesSize - length (flat encodeLine (T .lines)))
   unfolding encodeTable
-  line-words = let d = dictionary-length in drop-pad 256 _ _ (omega arith) ∙ padded (flat encodeLine (T .lines))
+  line-words = let d = dictionary-length in drop-pad madeSize _ _ (omega arith) ∙ padded (flat encodeLine (T .lines))
 
   dictionary-words : slice 3 195 (encodeTable T) ≡ pad 192 (flat encodeWord (T .words))
   unfolding encodeTable
@@ -92,7 +93,7 @@ module _ (T : Table) (i : IsTable T) where
   unfolding term selfTerm
   expression-is = expand-this (i .script) (length (T .words)) outside (joined (length (T .words)) (T .lines) (i .script) (i .grammar) (i .joined))
 
-  lines-are : linesIn (getD (encodeTable T) 1 0) (drop 256 (encodeTable T)) ≡ encodeTerm term
+  lines-are : linesIn (getD (encodeTable T) 1 0) (drop linesAt (encodeTable T)) ≡ encodeTerm term
   unfolding term textOf
   lines-are =
       let d = depth-script (T .words) (table-words T i) (T .lines) (i .grammar) in
@@ -139,12 +140,12 @@ module _ (T : Table) (i : IsTable T) where
     refuses = λ n e. let q : _≡_ {A = Result State} (refused 16) (refused n) = sym (load-large h) ∙ e in let z : n ≡ 16 = cc in (z, refl, refl);
   }
 
-  accepting : (old new : List ℕ) → nodes term ≤ 256 → new ≡ encode first ++ drop 16384 old → Loaded T old true new
+  accepting : (old new : List ℕ) → nodes term ≤ 256 → new ≡ encode first ++ drop stateWords old → Loaded T old true new
   accepting old new h e = record {
     loads = λ σ f.
         let q : _≡_ {A = Result State} (done first) (done σ) = sym (load-small h) ∙ f in
         let z : first ≡ σ = cc in
-        (refl, e ∙ ap {B = List ℕ} (λ τ. encode τ ++ drop 16384 old) z);
+        (refl, e ∙ ap {B = List ℕ} (λ τ. encode τ ++ drop stateWords old) z);
     refuses = λ n f. absurd (refused-done (sym f ∙ load-small h));
   }
 
@@ -155,19 +156,19 @@ more-than n f = go (leb n 256) refl
     go true e = absurd (f (leb-true n 256 e))
     go false e = leb-false n 256 e
 
-module _ (t old out mid : List ℕ) (n o : ℕ) (p : Wrote out 0 (linesIn n (drop 256 t)) mid o) (a : n ≡ getD t 1 0) where
+module _ (t old out mid : List ℕ) (n o : ℕ) (p : Wrote out 0 (linesIn n (drop linesAt t)) mid o) (a : n ≡ getD t 1 0) where
   wrote-term : (T : Table) (i : IsTable T) → t ≡ encodeTable T → Wrote out 0 (encodeTerm (term T i)) mid o
   wrote-term T i e =
-      transp (λ l. Wrote out 0 l mid o) (ap {B = List ℕ} (λ k. linesIn k (drop 256 t)) a ∙ ap {B = List ℕ} (λ w. linesIn (getD w 1 0) (drop 256 w)) e ∙ lines-are T i) p
+      transp (λ l. Wrote out 0 l mid o) (ap {B = List ℕ} (λ k. linesIn k (drop linesAt t)) a ∙ ap {B = List ℕ} (λ w. linesIn (getD w 1 0) (drop linesAt w)) e ∙ lines-are T i) p
 
-  pub loaded-long : 512 < o → LoadsWords t old false old
+  pub loaded-long : exprSize < o → LoadsWords t old false old
   unfolding LoadsWords
   loaded-long h T i e =
       let q = wrote-term T i e in
       let l = term-length (term T i) in
       refusing T i old (more-than (nodes (term T i)) (λ s. let c = q .next ∙ cap-small (0 + length (encodeTerm (term T i))) (omega arith) in omega arith))
 
-  module _ (f : length out ≡ 4096) (s : o ≤ 512) where
+  module _ (f : length out ≡ 4096) (s : o ≤ exprSize) where
     term-end : (T : Table) (i : IsTable T) → t ≡ encodeTable T → o ≡ length (encodeTerm (term T i))
     term-end T i e =
         let n = length (encodeTerm (term T i)) in
@@ -193,7 +194,7 @@ module _ (t old out mid : List ℕ) (n o : ℕ) (p : Wrote out 0 (linesIn n (dro
       unfolding LoadsWords
       loaded-large h T i e = refusing T i old (let q = nodes-are T i e in omega arith)
 
-      pub loaded-small : (new : List ℕ) → k ≤ 256 → 16384 ≤ length old
+      pub loaded-small : (new : List ℕ) → k ≤ 256 → stateWords ≤ length old
           → new ≡ sets old 0 (headWords (getD t 0 0) (slice 3 195 t) ++ partWords o (slice 0 o mid)) → LoadsWords t old true new
       unfolding LoadsWords first
       loaded-small new h r u T i e =
@@ -209,20 +210,20 @@ module _ (t old out mid : List ℕ) (n o : ℕ) (p : Wrote out 0 (linesIn n (dro
           let b = length-append (headWords c D) (partWords (length w) w) in
           let y = head-length c D (length-pad 192 (flat encodeWord (T .words)) d) in
           let z = part-length (length w) w refl (omega arith) in
-          let m : 0 + length (headWords c D ++ partWords (length w) w) ≡ 16384 = omega arith in
+          let m : 0 + length (headWords c D ++ partWords (length w) w) ≡ stateWords = omega arith in
           accepting T i old new (omega arith)
           (u ∙ ap (λ v. sets old 0 v) a ∙ sets-eq (headWords c D ++ partWords (length w) w) old 0 (omega arith)
           ∙ ap₂ {C = List ℕ} (λ v j. v ++ drop j old) (sym (start-run (T .words) (term T i) (few T i) (omega arith))) m)
 
 -- ---- the words that are published
-module _ (w : List ℕ) (h : 1280 ≤ length w) where
-  pub published-length : length (take 1280 w) ≡ 1280
-  published-length = length-take-le 1280 w h
+module _ (w : List ℕ) (h : tableWords ≤ length w) where
+  pub published-length : length (take tableWords w) ≡ tableWords
+  published-length = length-take-le tableWords w h
 
-  pub published-count : 1280 ≡ length (take 1280 w)
+  pub published-count : tableWords ≡ length (take tableWords w)
   published-count = sym published-length
 
-pub loaded-words : (w old new : List ℕ) (r : Bool) → LoadsWords (take 1280 w) old r new → Loads w old r new
+pub loaded-words : (w old new : List ℕ) (r : Bool) → LoadsWords (take tableWords w) old r new → Loads w old r new
 unfolding LoadsWords Loads
 loaded-words w old new r a = a
 

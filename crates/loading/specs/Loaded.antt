@@ -8,8 +8,9 @@ use Rattle.atlite.specs.Base.{done, refused}
 use Rattle.atlite.specs.State.{State}
 use Rattle.atlite.specs.Table.{Table, IsTable}
 use Rattle.atlite.specs.Load.{load}
-use Rattle.layout.specs.Layout.{stateWords, encode}
-use Rattle.layout.specs.Tables.{tableWords, encodeTable}
+use Rattle.layout.specs.Numbers.{stateWords, tableWords}
+use Rattle.layout.specs.Layout.{encode}
+use Rattle.layout.specs.Tables.{encodeTable}
 
 -- Of the table T the answer is r, and the words that were old are new: those of the first state, with what lies past them kept, or
 -- the same as before where the script is too large, which is the only cause there is.

@@ -13,6 +13,7 @@ use Rattle.atlite.specs.Lexicon.{Bytes, isDigit, isWord, letterFirst, isNumber,
 use Rattle.atlite.specs.Script.{Src}
 use Rattle.atlite.specs.Reader.{item, atom, readAtom, readWord}
 use Rattle.atlite.specs.Facts.{same-true, same-false-sym}
+use Rattle.atlite.specs.Term.{top}
 use Rattle.words.specs.Wide.{wide, wideSrc}
 use Rattle.scan.specs.Runs.{Run}
 use Rattle.parse.specs.declared.numbers.Number.{Number as Numbers}
@@ -135,7 +136,7 @@ module _ (t : Bytes) (at o e : ℕ) (old new : List ℕ) (h : Run t at e) where
       unfolding NameOf Named Took
       no-atom c n d = let k = rw d at n in by-name ∙ rw k
 
-pub number-small : (w : Bytes) (d : Numbers) (n : ℕ) → NumberIs w d → d ≡ Is n → n ≤ 16777215
+pub number-small : (w : Bytes) (d : Numbers) (n : ℕ) → NumberIs w d → d ≡ Is n → n ≤ top
 unfolding NumberIs
 number-small w d n s q = rw q at s .2
 

@@ -8,6 +8,7 @@ use lib.Seq.{slice}
 use Rattle.atlite.specs.Base.{Result, done, refused, all}
 use Rattle.atlite.specs.Lexicon.{Bytes, isDigit, isNumber, decimal, dictionary}
 use Rattle.atlite.specs.Reader.{readWord, spacedWord}
+use Rattle.atlite.specs.Term.{top}
 use Rattle.scan.specs.Codes.{Holds}
 use Rattle.parse.specs.declared.numbers.Number.{Number as Numbers}
 use Rattle.parse.specs.declared.numbers.Number.the-variants.{Is, Not}
@@ -20,7 +21,7 @@ Digits w (Is n) = (all isDigit w ≡ true) × (n ≡ decimal 0 w)
 Digits w Not = all isDigit w ≡ false
 
 unfoldable pub NumberIs : Bytes → Numbers → Type 0
-NumberIs w (Is n) = (isNumber w ≡ true) × (n ≡ decimal 0 w) × (n ≤ 16777215)
+NumberIs w (Is n) = (isNumber w ≡ true) × (n ≡ decimal 0 w) × (n ≤ top)
 NumberIs w Not = isNumber w ≡ false
 
 -- the digits before i make n

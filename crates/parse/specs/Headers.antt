@@ -12,7 +12,7 @@ use lib.ListN.{length, drop}
 use Rattle.atlite.specs.Base.{Result, done, refused, orRefuse, _>>=_, _>>_, if_then_else_, bytes}
 use Rattle.atlite.specs.Lexicon.{Bytes, dictionary}
 use Rattle.atlite.specs.Reader.{Reading, spacedWord, readWord, readItems, readParams, readNames, readHead}
-use Rattle.words.specs.Wide.{wide, pair, wideParams, wideMethod}
+use Rattle.words.specs.Wide.{wide, pair, wideParams, wideMethod, wideLimit, wideThird}
 use Rattle.scan.specs.Runs.{Starts}
 use Rattle.parse.specs.declared.names.Name.{Name}
 use Rattle.parse.specs.declared.names.Name.the-variants.{Word, NoWord}
@@ -102,7 +102,7 @@ module _ (t : Bytes) (at : ℕ) (r : Bool) (s : Starts t at (41 ∷ []) r) where
 
   more : (k y i j c q : ℕ) → r ≡ false → NameRead (spacedWord (dictionary t) (drop at t)) t at y i
       → NamesRead k (readItems [] _∷_ (readWord (dictionary t)) k (drop i t)) t i j c q
-      → NamesRead (suc k) (readItems [] _∷_ (readWord (dictionary t)) (suc k) (drop at t)) t at j (c + 1) (y + 4096 * q)
+      → NamesRead (suc k) (readItems [] _∷_ (readWord (dictionary t)) (suc k) (drop at t)) t at j (c + 1) (y + wideLimit * q)
   unfolding readItems spacedWord wideParams
   more k y i j c q e x h =
       let f = x .far in
@@ -128,10 +128,10 @@ module _ (t : Bytes) (at : ℕ) (r : Bool) (s : Starts t at (41 ∷ []) r) where
     pred = omega arith
 
     pub items-more : (y i j c q : ℕ) (h : Heads) → x ≡ Word y i → ItemsOf (k - 1) t i h → h ≡ Names j c q
-        → ItemsOf k t at (Names j (c + 1) (y + 4096 * q))
+        → ItemsOf k t at (Names j (c + 1) (y + wideLimit * q))
     unfolding ItemsOf TookNames SpacedName Named
     items-more y i j c q h u v w =
-        transp (λ (n : ℕ). NamesRead n (readItems [] _∷_ (readWord (dictionary t)) n (drop at t)) t at j (c + 1) (y + 4096 * q)) pred
+        transp (λ (n : ℕ). NamesRead n (readItems [] _∷_ (readWord (dictionary t)) n (drop at t)) t at j (c + 1) (y + wideLimit * q)) pred
         (more (k - 1) y i j c q e (rw u at s′) (rw w at v))
 
     worse : (n : ℕ) → (spacedWord (dictionary t) (drop at t) ≡ refused 2) → readItems [] _∷_ (readWord (dictionary t)) (suc n) (drop at t) ≡ refused 2
@@ -169,7 +169,7 @@ module _ (t : Bytes) (at : ℕ) (r : Bool) (s : Starts t at (41 ∷ []) r) where
 
   first : (y i j c q : ℕ) → r ≡ false → NameRead (readWord (dictionary t) (drop at t)) t at y i
       → NamesRead 2 (readItems [] _∷_ (readWord (dictionary t)) 2 (drop i t)) t i j c q
-      → NamesRead 3 (readNames (dictionary t) (drop at t)) t at j (c + 1) (y + 4096 * q)
+      → NamesRead 3 (readNames (dictionary t) (drop at t)) t at j (c + 1) (y + wideLimit * q)
   unfolding readNames readParams wideParams
   first y i j c q e a b =
       let f = a .far in
@@ -191,7 +191,7 @@ module _ (t : Bytes) (at : ℕ) (r : Bool) (s : Starts t at (41 ∷ []) r) where
       }
 
   module _ (e : r ≡ false) (x : Name) (s′ : NameOf t at x) where
-    pub names-more : (y i j c q : ℕ) (h : Heads) → x ≡ Word y i → ItemsOf 2 t i h → h ≡ Names j c q → NamesOf t at (Names j (c + 1) (y + 4096 * q))
+    pub names-more : (y i j c q : ℕ) (h : Heads) → x ≡ Word y i → ItemsOf 2 t i h → h ≡ Names j c q → NamesOf t at (Names j (c + 1) (y + wideLimit * q))
     unfolding NamesOf ItemsOf TookNames NameOf Named
     names-more y i j c q h u v w = first y i j c q e (rw u at s′) (rw w at v)
 
@@ -205,7 +205,7 @@ module _ (t : Bytes) (at : ℕ) (r : Bool) (s : Starts t at (41 ∷ []) r) where
 
 -- ---- sums fit
 module _ (t : Bytes) (at K : ℕ) (h : Heads) (i c q : ℕ) (v : ItemsOf K t at h) (w : h ≡ Names i c q) where
-  bounds : K ≤ 2 → (c ≤ 2) × (q < 16777216)
+  bounds : K ≤ 2 → (c ≤ 2) × (q < wideThird)
   unfolding ItemsOf TookNames
   bounds l = let b = rw w at v in let f = b .few in (omega arith, lt-of-lt-of-le (b .small) (pow-le-pow-right {n = 4096} (omega arith) {j = 2} l))
 
@@ -213,20 +213,20 @@ module _ (t : Bytes) (at k : ℕ) (h : Heads) (i c q : ℕ) (l : k ≤ 2) (v : I
   pub count-fits : Fits w64 (c + 1)
   count-fits = let b = bounds t at (k - 1) h i c q v w (omega arith) in record { fits = omega arith }
 
-  pub scaled-fits′ : Fits w64 (4096 * q)
+  pub scaled-fits′ : Fits w64 (wideLimit * q)
   scaled-fits′ = let b = bounds t at (k - 1) h i c q v w (omega arith) in record { fits = omega arith }
 
-  pub packed-fits : (y : ℕ) → y < 4096 → Fits w64 (y + 4096 * q)
+  pub packed-fits : (y : ℕ) → y < 4096 → Fits w64 (y + wideLimit * q)
   packed-fits y m = let b = bounds t at (k - 1) h i c q v w (omega arith) in record { fits = omega arith }
 
 module _ (t : Bytes) (at : ℕ) (h : Heads) (i c q : ℕ) (v : ItemsOf 2 t at h) (w : h ≡ Names i c q) where
   pub count-fits₂ : Fits w64 (c + 1)
   count-fits₂ = let b = bounds t at 2 h i c q v w (omega arith) in record { fits = omega arith }
 
-  pub scaled-fits₂ : Fits w64 (4096 * q)
+  pub scaled-fits₂ : Fits w64 (wideLimit * q)
   scaled-fits₂ = let b = bounds t at 2 h i c q v w (omega arith) in record { fits = omega arith }
 
-  pub packed-fits₂ : (y : ℕ) → y < 4096 → Fits w64 (y + 4096 * q)
+  pub packed-fits₂ : (y : ℕ) → y < 4096 → Fits w64 (y + wideLimit * q)
   packed-fits₂ y m = let b = bounds t at 2 h i c q v w (omega arith) in record { fits = omega arith }
 
 pub spaced-small : (t : Bytes) (at : ℕ) (c : Name) (y i : ℕ) → SpacedName t at c → c ≡ Word y i → y < 4096

@@ -12,6 +12,7 @@ use Rattle.atlite.specs.Script.{Src, SrcFields, SrcMethods}
 use Rattle.atlite.specs.Table.{countFields, countMethods}
 use Rattle.atlite.specs.Keywords.{operators}
 use Rattle.atlite.specs.Reader.{Reading, readWord, readFields, readMethods, readExpr}
+use Rattle.layout.specs.Numbers.{fieldKind}
 use Rattle.words.specs.Wide.{wide, wideSrc, wideFields, wideMethods}
 use Rattle.scan.specs.Runs.{Starts}
 use Rattle.parse.specs.declared.names.Name.{Name}
@@ -156,7 +157,7 @@ module _ (t : Bytes) (at o b : ℕ) (old new : List ℕ) where
     unfolding Lists TookList fieldAt NameOf Named
     field-bad e n l = let y = rw e at s in rw y
 
-    module _ (f i w : ℕ) (e : x ≡ Word f i) (h : w ≡ wide 128 f) (m₁ : List ℕ) (a : Step) (u : Reads (oneWords w) (ones t) t i o old m₁ a) where
+    module _ (f i w : ℕ) (e : x ≡ Word f i) (h : w ≡ wide fieldKind f) (m₁ : List ℕ) (a : Step) (u : Reads (oneWords w) (ones t) t i o old m₁ a) where
       named : NameRead (readWord (dictionary t) (drop at t)) t at f i
       unfolding NameOf Named
       named = rw e at s

@@ -16,6 +16,7 @@ use mir.Syntax.{w64}
 use Rattle.atlite.specs.Base.{all}
 use Rattle.atlite.specs.Lexicon.{Bytes, isDigit, isNumber, decimal}
 use Rattle.atlite.specs.Facts.{and₂}
+use Rattle.atlite.specs.Term.{top}
 use Rattle.parse.specs.declared.numbers.Number.{Number as Numbers}
 use Rattle.parse.specs.declared.numbers.Number.the-variants.{Is, Not}
 use Rattle.parse.specs.Atoms.{Digits, NumberIs, Counted}
@@ -65,20 +66,20 @@ module _ (t : Bytes) (at e : ℕ) (h : (at ≤ e) × (e ≤ length t) × (e - at
 
 -- ---- the other conditions
 number-test : (w : Bytes) → 0 < length w → length w ≤ 8 → (getD w 0 0 ≡ 48 → ⊥)
-    → isNumber w ≡ (all isDigit w && leb (decimal 0 w) 16777215)
+    → isNumber w ≡ (all isDigit w && leb (decimal 0 w) top)
 unfolding isNumber decimal all isDigit
 number-test [] h k n = absurd (omega arith)
 number-test (b ∷ []) h k n = go (isDigit b) refl
   where
-    go : (c : Bool) → isDigit b ≡ c → isDigit b ≡ (isDigit b && true && leb (0 * 10 + (b - 48)) 16777215)
+    go : (c : Bool) → isDigit b ≡ c → isDigit b ≡ (isDigit b && true && leb (0 * 10 + (b - 48)) top)
     go true e =
         let m = leb-true b 57 (and₂ (leb 48 b) (leb b 57) e .1) in
-        rw (e, le-leb (0 * 10 + (b - 48)) 16777215 (omega arith))
+        rw (e, le-leb (0 * 10 + (b - 48)) top (omega arith))
     go false e = rw e
 number-test (b ∷ c ∷ w) h k n =
     rw (ne-eqb b 48 n, le-leb (length w) 6 (omega arith)) (go (all isDigit (b ∷ c ∷ w)))
   where
-    go : (x : Bool) → (x && true && true && leb (decimal 0 (b ∷ c ∷ w)) 16777215) ≡ (x && leb (decimal 0 (b ∷ c ∷ w)) 16777215)
+    go : (x : Bool) → (x && true && true && leb (decimal 0 (b ∷ c ∷ w)) top) ≡ (x && leb (decimal 0 (b ∷ c ∷ w)) top)
     go true = refl
     go false = refl
 
@@ -129,19 +130,19 @@ module _ (t : Bytes) (at e : ℕ) (h : (at ≤ e) × (e ≤ length t)) where
       rw (cons n, z, add-one at, slice-cons (suc at) e t 0 (omega arith) (h .1)) (number-zeros _ _)
 
   module _ (n : e ≡ at → ⊥) (k : e - at ≤ 8) (z : getD t at 0 ≡ 48 → ⊥) where
-    test : isNumber (slice at e t) ≡ (all isDigit (slice at e t) && leb (decimal 0 (slice at e t)) 16777215)
+    test : isNumber (slice at e t) ≡ (all isDigit (slice at e t) && leb (decimal 0 (slice at e t)) top)
     test =
         let l = length-slice at e t (h .1) in
         let u = h .0 in
         number-test (slice at e t) (omega arith) (omega arith) (λ x. z (sym (ap (λ (w : Bytes). getD w 0 0) (cons n)) ∙ x))
 
-    pub so-number : (d : Numbers) (m : ℕ) → Digits (slice at e t) d → d ≡ Is m → m ≤ 16777215 → NumberIs (slice at e t) (Is m)
+    pub so-number : (d : Numbers) (m : ℕ) → Digits (slice at e t) d → d ≡ Is m → m ≤ top → NumberIs (slice at e t) (Is m)
     unfolding NumberIs Digits
-    so-number d m p q l = let r = rw q at p in (test ∙ rw (r .0, ← r .1, le-leb m 16777215 l), r .1, l)
+    so-number d m p q l = let r = rw q at p in (test ∙ rw (r .0, ← r .1, le-leb m top l), r .1, l)
 
-    pub big-number : (d : Numbers) (m : ℕ) → Digits (slice at e t) d → d ≡ Is m → 16777215 < m → NumberIs (slice at e t) Not
+    pub big-number : (d : Numbers) (m : ℕ) → Digits (slice at e t) d → d ≡ Is m → top < m → NumberIs (slice at e t) Not
     unfolding NumberIs Digits
-    big-number d m p q l = let r = rw q at p in test ∙ rw (r .0, ← r .1, lt-leb m 16777215 l)
+    big-number d m p q l = let r = rw q at p in test ∙ rw (r .0, ← r .1, lt-leb m top l)
 
     pub not-number : (d : Numbers) → Digits (slice at e t) d → d ≡ Not → NumberIs (slice at e t) Not
     unfolding NumberIs Digits

@@ -2,6 +2,7 @@
 ghost use mathlib.Core.Path.{_≡_};
 ghost use Prim.Native.Nat.{_+_, _*_, _≤_, _<_};
 ghost use lib.ListN.{length, set};
+ghost use Rattle.atlite.specs.Term.{top};
 ghost use Rattle.words.specs.Wide.{wide, pair};
 ghost use Rattle.parse.specs.Steps.{Place, Closed};
 
@@ -53,7 +54,7 @@ pub fn head2(k: u8, x: usize, y: usize) -> u64
 }
 
 pub fn number_word(n: usize) -> u64
-    requires { ⌜ n ≤ 16777215 ⌝ }
+    requires { ⌜ n ≤ top ⌝ }
     ensures { λ r. ⌜ r ≡ wide 2 n ⌝ }
 {
     2 + 256 * (n as u64)

@@ -15,7 +15,8 @@ use Rattle.atlite.specs.Run.{run}
 use Rattle.atlite.specs.Program.{listed, shown}
 use Rattle.atlite.specs.Loops.{entry, schedule, played, loops}
 use Rattle.invariant.specs.Moves.{run-keeps}
-use Rattle.layout.specs.Layout.{stateWords, encode}
+use Rattle.layout.specs.Numbers.{stateWords}
+use Rattle.layout.specs.Layout.{encode}
 use Rattle.layout.specs.Meaning.{lent, runCall}
 use Rattle.layout.specs.MeaningLaws.{lent-state, state-lent, run-unlent, run-leaves}
 use Rattle.play.specs.declared.line.Line.{Line}

@@ -21,8 +21,9 @@ use Rattle.atlite.specs.declared.Loaded.{Loaded}
 use Rattle.atlite.specs.declared.Loaded.the-variants as L
 use Rattle.reading.specs.Exact.{read-exact}
 use Rattle.invariant.specs.Loads.{load-keeps}
-use Rattle.layout.specs.Layout.{stateWords, encode}
-use Rattle.layout.specs.Tables.{tableWords, encodeTable}
+use Rattle.layout.specs.Numbers.{stateWords, tableWords}
+use Rattle.layout.specs.Layout.{encode}
+use Rattle.layout.specs.Tables.{encodeTable}
 use Rattle.layout.specs.TableLaws.{table-of}
 use Rattle.layout.specs.Meaning.{answered, tableIn, lent, readCall, loadCall}
 use Rattle.layout.specs.MeaningLaws.{lent-state, read-done, read-length}

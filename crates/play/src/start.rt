@@ -1,16 +1,14 @@
 // The state that a script starts in.
 ghost use Prim.Native.Nat.{_≤_};
 ghost use lib.ListN.{length};
-ghost use Rattle.layout.specs.Layout.{stateWords};
+ghost use Rattle.layout.specs.Numbers.{stateWords};
 ghost use Rattle.play.specs.Starts.{Starts};
 use atlite::Loaded;
 use atlite::Tabled;
+use layout::TABLE;
 
 // The words of a state.
-pub const STATE: usize = 16384;
-
-// The words of a table.
-const TABLE: usize = 1280;
+pub const STATE: usize = layout::STATE;
 
 // Reads a script and loads it into `state`.
 pub fn start(script: &[u8], state: &mut [u32]) -> Loaded

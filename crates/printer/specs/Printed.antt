@@ -5,7 +5,8 @@ use mathlib.Core.List.{List, _++_}
 use Prim.Native.Nat.{ℕ, _≤_}
 use lib.ListN.{length, take, drop}
 use Rattle.atlite.specs.Table.{Table, IsTable, textOf}
-use Rattle.layout.specs.Tables.{tableWords, encodeTable}
+use Rattle.layout.specs.Numbers.{tableWords}
+use Rattle.layout.specs.Tables.{encodeTable}
 use Rattle.printer.specs.declared.Written.{Written}
 use Rattle.printer.specs.declared.Written.the-variants.{Bytes, Bad}
 use Rattle.printer.specs.Names.{namesHold}

@@ -8,6 +8,7 @@ use lib.ListN.{length, drop, getD}
 use lib.Seq.{drop-drop}
 use Rattle.atlite.specs.Table.{Table, IsTable, textOf}
 use Rattle.reading.specs.Exact.{table-words}
+use Rattle.layout.specs.Numbers.{linesAt, linesSize}
 use Rattle.layout.specs.Pack.{pad, zeros, flat}
 use Rattle.layout.specs.PackLaws.{pad-front, drop-pad, length-flat}
 use Rattle.layout.specs.Layout.{encodeWord}
@@ -24,9 +25,9 @@ head : Table → List ℕ
 head T = length (T .words) ∷ length (T .lines) ∷ length (flat encodeLine (T .lines)) ∷ flat encodeWord (T .words)
 
 module _ (t : List ℕ) (T : Table) (i : IsTable T) (e : t ≡ drop 1 (encodeTable T)) where
-  front : t ≡ drop 1 (head T ++ (zeros (256 - length (head T)) ++ pad 1024 (flat encodeLine (T .lines))))
+  front : t ≡ drop 1 (head T ++ (zeros (linesAt - length (head T)) ++ pad linesSize (flat encodeLine (T .lines))))
   unfolding encodeTable head
-  front = e ∙ ap (drop 1) (pad-front 256 (head T) (pad 1024 (flat encodeLine (T .lines))))
+  front = e ∙ ap (drop 1) (pad-front linesAt (head T) (pad linesSize (flat encodeLine (T .lines))))
 
   head-length : length (head T) ≡ 3 + 3 * length (T .words)
   unfolding head
@@ -43,14 +44,14 @@ module _ (t : List ℕ) (T : Table) (i : IsTable T) (e : t ≡ drop 1 (encodeTab
     fit = f .wordsFit;
     entries = λ k j l b.
         let z : 2 + (3 * k + j) ≡ suc (suc (3 * k + j)) = omega arith in
-        ap₂ (λ l n. getD l n 0) front z ∙ entry-at (T .words) (256 - length (head T)) _ k j (omega (arith, f .wordCount, head-length)) b;
+        ap₂ (λ l n. getD l n 0) front z ∙ entry-at (T .words) (linesAt - length (head T)) _ k j (omega (arith, f .wordCount, head-length)) b;
   }
 
-  lines-front : drop 255 t ≡ flat encodeLine (T .lines) ++ zeros (1024 - length (flat encodeLine (T .lines)))
+  lines-front : drop 255 t ≡ flat encodeLine (T .lines) ++ zeros (linesSize - length (flat encodeLine (T .lines)))
   unfolding encodeTable pad head
   lines-front =
       ap (drop 255) e ∙ drop-drop 255 1 (encodeTable T)
-      ∙ drop-pad 256 (head T) (pad 1024 (flat encodeLine (T .lines))) (omega (arith, head-length, table-fits T i .wordCount))
+      ∙ drop-pad linesAt (head T) (pad linesSize (flat encodeLine (T .lines))) (omega (arith, head-length, table-fits T i .wordCount))
 
 pub table-text : (t : List ℕ) (T : Table) → IsTable T → t ≡ drop 1 (encodeTable T) → linesIn t (getD t 0 0) (drop 255 t) ≡ textOf T
 unfolding textOf

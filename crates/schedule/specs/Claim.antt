@@ -13,7 +13,7 @@ use Rattle.atlite.specs.State.{State}
 use Rattle.atlite.specs.Move as M
 use Rattle.atlite.specs.Move.{Answer, Inner, Taken, Sent, Created, Moved}
 use Rattle.atlite.specs.Run as R
-use Rattle.layout.specs.Layout.{stateWords}
+use Rattle.layout.specs.Numbers.{stateWords}
 use Rattle.layout.specs.Meaning.{lent, moveCall, runCall, listCall}
 
 -- ---- calls

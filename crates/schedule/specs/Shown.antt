@@ -11,6 +11,7 @@ use Rattle.atlite.specs.Loops.{All}
 use Rattle.atlite.specs.Valid.{Valid}
 use Rattle.atlite.specs.ValidTest.{ValidTest}
 use Rattle.atlite.specs.Move.{Inner, Taken, Sent, Created}
+use Rattle.layout.specs.Numbers.{stateWords, tableWords}
 use Rattle.layout.specs.Pack.{Pack}
 use Rattle.layout.specs.Terms.{Terms·all}
 use Rattle.layout.specs.Layout.{Layout}
@@ -31,8 +32,8 @@ start =
     loadCall
     (readCall
     (bytes "(def a (actor (method go () 1)))\n(def b (actor (method go () 2)))\n(def c (actor (method go () 3)))\n(send a go)\n(send b go)\n(send c go)\n")
-    (replicate 1280 0) .buffer)
-    (replicate 16384 0) .buffer
+    (replicate tableWords 0) .buffer)
+    (replicate stateWords 0) .buffer
 
 -- actor 0 to its end, then the others one after another
 unfoldable pub first : List Call

@@ -17,10 +17,11 @@ use Rattle.atlite.specs.Run.{begun, after, runFrom}
 use Rattle.atlite.specs.Listing.{listing}
 use Rattle.atlite.specs.Valid.{IsState}
 use lib.Dec.{leb}
+use Rattle.layout.specs.Numbers.{stateWords}
 use Rattle.layout.specs.Decode.{stateOf}
 use Rattle.invariant.specs.Moves.{run-keeps}
 use Rattle.layout.specs.Pack.{flat}
-use Rattle.layout.specs.Layout.{stateWords, encode}
+use Rattle.layout.specs.Layout.{encode}
 use Rattle.layout.specs.Meaning.{answered, room, stateIn, lent, moveCall, listCall}
 use Rattle.layout.specs.Laws.{state-length}
 use Rattle.layout.specs.Outcomes.{room-enough}

@@ -16,6 +16,7 @@ use Rattle.atlite.specs.Reader.{depth, readScript}
 use Rattle.atlite.specs.Table.{GrammaticalLines}
 use Rattle.atlite.specs.declared.Tabled.the-variants.{Done, Refused}
 use Rattle.reading.specs.Exact.{script-exact}
+use Rattle.layout.specs.Numbers.{linesSize, tableWords}
 use Rattle.layout.specs.Pack.{flat}
 use Rattle.layout.specs.Tables.{encodeLine}
 use Rattle.layout.specs.TableFitting.{lines-length}
@@ -32,7 +33,7 @@ use Rattle.script.specs.Reads.{Reads, unbound, twice, too-deep, too-many
 
 -- The text t is a script whose lines stand in the words s, its dictionary stands in low and high, and the table old has room.
 pub record Grammar (t old s low high : List ℕ) (words lines count : ℕ) (apply : Bool) : Type 0 where
-  pub room : 1280 ≤ length old
+  pub room : tableWords ≤ length old
   pub some : length t ≡ 0 → ⊥
   pub short : length t ≤ 4096
   pub dict : Dictionary t low high count apply
@@ -112,14 +113,14 @@ module _ (t old s low high : List ℕ) (words lines count : ℕ) (apply : Bool) 
     dictionary-within = omega (arith, h .grammar .dict .held .counted)
 
     module _ (z : ℕ) (a : Size s words lines z) (k : z ≤ 512) where
-      long : length (flat encodeLine (h .grammar .ls)) ≤ 1024 × (length (h .grammar .ls) ≤ 512)
+      long : length (flat encodeLine (h .grammar .ls)) ≤ linesSize × (length (h .grammar .ls) ≤ 512)
       long =
           let g = h .grammar in
           let e = size-is g z a in
           let q = lines-length (g .ls) (g .e) (g .joined) in
           (omega (arith, q .0), omega (arith, q .1))
 
-      pub few-words : words ≤ 1024
+      pub few-words : words ≤ linesSize
       few-words =
           let g = h .grammar in
           let e = ap length (narrow-lines (g .ls) (length (dictionary t)) dictionary-within (lined g)) in
@@ -169,7 +170,7 @@ rows-within (l ∷ ls) = omega (arith, line-some l, rows-within ls, length-appen
 -- ---- before the grammar
 -- the table has room and the text a length that is allowed
 pub record Sized (t old : List ℕ) : Type 0 where
-  pub room : 1280 ≤ length old
+  pub room : tableWords ≤ length old
   pub some : length t ≡ 0 → ⊥
   pub short : length t ≤ 4096
 

@@ -8,6 +8,7 @@ use borrow.Author.Needs.{needs}
 use lib.ListN.{length}
 use Rattle.atlite.specs.Lexicon.{dictionary}
 use Rattle.atlite.specs.declared.Tabled.the-variants.{Refused}
+use Rattle.layout.specs.Numbers.{tableWords}
 use Rattle.scan.specs.Codes.{Holds, Dictionary}
 use Rattle.parse.specs.declared.Parsed.{Parsed}
 use Rattle.parse.specs.declared.Parsed.the-variants.{Done, Bad}
@@ -46,7 +47,7 @@ module _ (t old : List ℕ) where
   unfolding Parses
   unparsed s r z p e = no-script t old (z .room) (z .some) (z .short) (transp (Parses t s) e p)
 
-  pub sized : 1280 ≤ length old → (length t ≡ 0 → ⊥) → length t ≤ 4096 → Sized t old
+  pub sized : tableWords ≤ length old → (length t ≡ 0 → ⊥) → length t ≤ 4096 → Sized t old
   sized a b c = record { room = a; some = b; short = c }
 
 pub ruleset laws = (needs, held, known-few, parsed, unparsed, sized, no-room, no-text, long-text)

@@ -14,7 +14,8 @@ use Rattle.atlite.specs.Table.{Table, IsTable, textOf}
 use Rattle.atlite.specs.Answers.{printAnswer}
 use Rattle.atlite.specs.declared.Printed.{Printed}
 use Rattle.atlite.specs.declared.Printed.the-variants.{Bytes, Refused}
-use Rattle.layout.specs.Tables.{tableWords, encodeTable}
+use Rattle.layout.specs.Numbers.{tableWords}
+use Rattle.layout.specs.Tables.{encodeTable}
 use Rattle.layout.specs.TableReading.{tableOf}
 use Rattle.layout.specs.TableLaws.{table-of-iff}
 use Rattle.layout.specs.Meaning.{answered, tableIn, printCall}
@@ -33,7 +34,7 @@ pub data Given (front old : List ℕ) (r : Printed) (new : List ℕ) : Type 0 wh
 -- The words t begin with the table T, whose text is front.
 pub record TextIn (t front : List ℕ) (T : Table) : Type 0 where
   pub table : IsTable T
-  pub words : take 1280 t ≡ encodeTable T
+  pub words : take tableWords t ≡ encodeTable T
   pub text : textOf T ≡ front
 
 -- r tells whether there is such a table.
@@ -43,30 +44,30 @@ pub record IsText (t front : List ℕ) (r : Bool) : Type 0 where
 
 -- If the words t begin with a table, front is its text.
 pub record Front (t front : List ℕ) : Type 0 where
-  pub room : 1280 ≤ length t
-  pub text : (T : Table) → IsTable T → take 1280 t ≡ encodeTable T → textOf T ≡ front
+  pub room : tableWords ≤ length t
+  pub text : (T : Table) → IsTable T → take tableWords t ≡ encodeTable T → textOf T ≡ front
 
 -- ---- by what the words are
-pub no-room : (t old : List ℕ) → length t < 1280 → Prints t old (Refused 6) old
+pub no-room : (t old : List ℕ) → length t < tableWords → Prints t old (Refused 6) old
 unfolding Prints printAnswer printCall answered
 no-room t old h = rw (room-short tableWords t h) (refl, refl)
 
-module _ (t old : List ℕ) (room : 1280 ≤ length t) where
+module _ (t old : List ℕ) (room : tableWords ≤ length t) where
   -- where no table has these words
-  pub no-table : ((T : Table) → IsTable T → take 1280 t ≡ encodeTable T → ⊥) → Prints t old (Refused 7) old
+  pub no-table : ((T : Table) → IsTable T → take tableWords t ≡ encodeTable T → ⊥) → Prints t old (Refused 7) old
   unfolding Prints printAnswer printCall answered tableIn orRefuse
-  no-table f = go (tableOf (take 1280 t)) refl
+  no-table f = go (tableOf (take tableWords t)) refl
     where
-      go : (o : Option Table) → tableOf (take 1280 t) ≡ o → Prints t old (Refused 7) old
+      go : (o : Option Table) → tableOf (take tableWords t) ≡ o → Prints t old (Refused 7) old
       go none e = rw (room-enough tableWords t room, e) (refl, refl)
-      go (some T) e = let h = table-of-iff (take 1280 t) T .0 e in absurd (f T (h .0) (sym (h .1)))
+      go (some T) e = let h = table-of-iff (take tableWords t) T .0 e in absurd (f T (h .0) (sym (h .1)))
 
   table-printed : (front new : List ℕ) (r : Printed) (T : Table) → TextIn t front T → Given front old r new → Prints t old r new
   unfolding Prints printAnswer printCall answered tableIn orRefuse
   table-printed front new r T i (short l e u) =
-      rw (room-enough tableWords t room, table-of-iff (take 1280 t) T .1 (i .table, sym (i .words)), i .text, room-short (length front) old l, e, u) (refl, refl)
+      rw (room-enough tableWords t room, table-of-iff (take tableWords t) T .1 (i .table, sym (i .words)), i .text, room-short (length front) old l, e, u) (refl, refl)
   table-printed front new r T i (whole l e u) =
-      rw (room-enough tableWords t room, table-of-iff (take 1280 t) T .1 (i .table, sym (i .words)), i .text, room-enough (length front) old l, e, u) (refl, refl)
+      rw (room-enough tableWords t room, table-of-iff (take tableWords t) T .1 (i .table, sym (i .words)), i .text, room-enough (length front) old l, e, u) (refl, refl)
 
 -- ---- give
 pub gives-short : (front old : List ℕ) → length old < length front → Given front old (Refused 6) old

@@ -20,7 +20,8 @@ use Rattle.atlite.specs.Answers.{readAnswer}
 use Rattle.atlite.specs.declared.Tabled.{Tabled}
 use Rattle.atlite.specs.declared.Tabled.the-variants.{Done, Refused}
 use Rattle.reading.specs.Exact.{read-table}
-use Rattle.layout.specs.Tables.{tableWords, encodeTable}
+use Rattle.layout.specs.Numbers.{tableWords}
+use Rattle.layout.specs.Tables.{encodeTable}
 use Rattle.layout.specs.TableLaws.{table-length}
 use Rattle.layout.specs.Meaning.{answered, readCall}
 use Rattle.layout.specs.Outcomes.{room-enough, room-short}
@@ -30,15 +31,15 @@ unfoldable pub Reads : List ℕ → List ℕ → Tabled → List ℕ → Type 0
 Reads t old r new = (readAnswer r ≡ readCall t old .result) × (new ≡ readCall t old .buffer)
 
 -- ---- by what reading the text gives
-pub no-room : (t old : List ℕ) → length old < 1280 → Reads t old (Refused 6) old
+pub no-room : (t old : List ℕ) → length old < tableWords → Reads t old (Refused 6) old
 unfolding Reads readAnswer readCall answered
 no-room t old h = rw (room-short tableWords old h) (refl, refl)
 
-refusal : (t old : List ℕ) (n : ℕ) → 1280 ≤ length old → read operators t ≡ refused n → Reads t old (Refused n) old
+refusal : (t old : List ℕ) (n : ℕ) → tableWords ≤ length old → read operators t ≡ refused n → Reads t old (Refused n) old
 unfolding Reads readAnswer readCall answered
 refusal t old n h e = rw (room-enough tableWords old h, e) (refl, refl)
 
-taken : (t old new : List ℕ) (T : Table) → 1280 ≤ length old → read operators t ≡ done T → new ≡ encodeTable T ++ drop 1280 old → Reads t old Done new
+taken : (t old new : List ℕ) (T : Table) → tableWords ≤ length old → read operators t ≡ done T → new ≡ encodeTable T ++ drop tableWords old → Reads t old Done new
 unfolding Reads readAnswer readCall answered
 taken t old new T h e n = rw (room-enough tableWords old h, e, table-length T (read-table t T e)) (refl, n)
 
@@ -57,7 +58,7 @@ positive : {n : ℕ} → (n ≡ 0 → ⊥) → 0 < n
 positive h = omega arith
 
 -- ---- cause by cause
-module _ (t old : List ℕ) (room : 1280 ≤ length old) where
+module _ (t old : List ℕ) (room : tableWords ≤ length old) where
   pub no-text : length t ≡ 0 → Reads t old (Refused 1) old
   unfolding read require
   no-text e = let r : read operators t ≡ refused 1 = rw e in refusal t old 1 room r
@@ -118,7 +119,7 @@ module _ (t old : List ℕ) (room : 1280 ≤ length old) where
           go false = refl
 
       pub accepted : (new : List ℕ) → bound [] e ≡ true → single e ≡ true → depth t ≤ 32 → length (wordsOf t) ≤ 64 → size e ≤ 512
-          → new ≡ encodeTable (tableFor t ls) ++ drop 1280 old → Reads t old Done new
+          → new ≡ encodeTable (tableFor t ls) ++ drop tableWords old → Reads t old Done new
       unfolding judged require within
       accepted new b s d n z h =
           taken t old new (tableFor t ls) room

@@ -14,7 +14,8 @@ use Rattle.atlite.specs.Answers.{readAnswer}
 use Rattle.atlite.specs.declared.Tabled.{Tabled}
 use Rattle.atlite.specs.declared.Tabled.the-variants.{Done, Refused}
 use Rattle.atlite.specs.declared.Printed.the-variants as P
-use Rattle.layout.specs.Tables.{tableWords, encodeTable}
+use Rattle.layout.specs.Numbers.{tableWords}
+use Rattle.layout.specs.Tables.{encodeTable}
 use Rattle.layout.specs.TableLaws.{table-length}
 use Rattle.layout.specs.Meaning.{readCall}
 use Rattle.layout.specs.MeaningLaws.{read-done, read-leaves}
@@ -26,24 +27,24 @@ use Rattle.script.specs.Reads.{Reads}
 use Rattle.script.specs.Prints.{Prints, TextIn, IsText, Front, no-room, no-table}
 
 -- ---- reading it
-module _ (t front old new : List ℕ) (room : 1280 ≤ length old) (r : Tabled) (s : Reads front old r new) where
+module _ (t front old new : List ℕ) (room : tableWords ≤ length old) (r : Tabled) (s : Reads front old r new) where
   -- what reading the text of a table leaves
-  text-read : (T : Table) → TextIn t front T → (readAnswer r ≡ done tt) × (take 1280 new ≡ take 1280 t)
+  text-read : (T : Table) → TextIn t front T → (readAnswer r ≡ done tt) × (take tableWords new ≡ take tableWords t)
   unfolding Reads
   text-read T i =
       let e = read-leaves T old (i .table) room in
       let q = transp (λ x. readCall x old ≡ record { result = done tt; buffer = encodeTable T ++ drop tableWords old }) (i .text) e in (
         s .0 ∙ ap (λ c. c .result) q,
-        ap (take 1280) (s .1 ∙ ap (λ c. c .buffer) q) ∙ take-at (encodeTable T) _ 1280 (table-length T (i .table)) ∙ sym (i .words),
+        ap (take tableWords) (s .1 ∙ ap (λ c. c .buffer) q) ∙ take-at (encodeTable T) _ tableWords (table-length T (i .table)) ∙ sym (i .words),
       )
 
-  pub read-back : r ≡ Done → (b : Bool) → Same (take 1280 t) (take 1280 new) b → IsText t front b
+  pub read-back : r ≡ Done → (b : Bool) → Same (take tableWords t) (take tableWords new) b → IsText t front b
   unfolding Reads readAnswer
   read-back e b c = record {
     sound = λ h.
         let a : readCall front old .result ≡ done tt = sym (s .0) ∙ ap readAnswer e in
         let q = read-done front old a in
-        (q .0, record { table = q .1; words = c .sound h ∙ ap (take 1280) (s .1) ∙ q .3; text = q .2 });
+        (q .0, record { table = q .1; words = c .sound h ∙ ap (take tableWords) (s .1) ∙ q .3; text = q .2 });
     complete = λ T i. c .complete (sym (text-read T i .1));
   }
 
@@ -55,7 +56,7 @@ module _ (t front old new : List ℕ) (room : 1280 ≤ length old) (r : Tabled) 
   }
 
 -- ---- making it
-module _ (t old out new : List ℕ) (room : 1280 ≤ length t) (r : Written) (p : Printed t out new r) where
+module _ (t old out new : List ℕ) (room : tableWords ≤ length t) (r : Written) (p : Printed t out new r) where
   pub no-text : r ≡ Bad → Prints t old (P.Refused 7) old
   no-text e = no-table t old room (λ T i w. let q : Bad ≡ Bytes (length (textOf T)) = sym e ∙ p .table T i w .0 in let z : _≡_ {A = ℕ} 0 1 = cc in omega arith)
 

@@ -13,7 +13,7 @@ use Rattle.atlite.specs.Facts.{refused-done}
 use Rattle.atlite.specs.Answers.{printAnswer}
 use Rattle.atlite.specs.declared.Printed.{Printed}
 use Rattle.atlite.specs.declared.Printed.the-variants.{Bytes, Refused}
-use Rattle.layout.specs.Tables.{tableWords}
+use Rattle.layout.specs.Numbers.{tableWords}
 use Rattle.layout.specs.TableReading.{tableOf}
 use Rattle.layout.specs.TableLaws.{table-of-iff}
 use Rattle.layout.specs.Meaning.{tableIn, printCall}

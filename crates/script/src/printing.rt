@@ -4,10 +4,12 @@ ghost use Prim.Native.Nat.{_≤_};
 ghost use lib.ListN.{length, take};
 ghost use Rattle.atlite.specs.Base.{isDone};
 ghost use Rattle.atlite.specs.Answers.{printAnswer};
+ghost use Rattle.layout.specs.Numbers.{tableWords};
 ghost use Rattle.layout.specs.Meaning.{tableIn, printCall};
 ghost use Rattle.script.specs.Prints.{Prints, Given, IsText, Front};
 use atlite::Printed;
 use atlite::Tabled;
+use layout::TABLE;
 use printer::Written;
 
 // Puts the text `front` in front of `text`, if it fits.
@@ -24,13 +26,13 @@ fn give(front: &[u8], text: &mut [u8]) -> Printed
 
 // Whether `front` is the text of the table whose words `table` begins with: it is read, and the words are compared.
 fn is_text(table: &[u32], front: &[u8]) -> bool
-    requires { ⌜ 1280 ≤ length (now table) ⌝ }
+    requires { ⌜ tableWords ≤ length (now table) ⌝ }
     ensures { λ r. ⌜ IsText (now (table .entry)) (now (front .entry)) r ⌝ }
 {
     let mut again = [0u32; 1280];
     let t = crate::reader::read_text(front, &mut again);
     match t {
-        Tabled::Done => words::same_words(table, &again, 1280),
+        Tabled::Done => words::same_words(table, &again, TABLE),
         Tabled::Refused(n) => false,
     }
 }
@@ -51,7 +53,7 @@ fn print_made(table: &[u32], out: &[u8], n: usize, text: &mut [u8]) -> Printed
 fn print_table(table: &[u32], text: &mut [u8]) -> Printed
     ensures { λ r. ⌜ Prints (now (table .entry)) (now (text .entry)) r (now (text .exit)) ⌝ }
 {
-    if table.len() < 1280 {
+    if table.len() < TABLE {
         return Printed::Refused(6);
     }
     let mut out = [0u8; 4096];

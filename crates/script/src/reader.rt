@@ -7,6 +7,7 @@ ghost use Rattle.layout.specs.Meaning.{readCall};
 ghost use Rattle.script.specs.Reads.{Reads};
 ghost use Rattle.script.specs.Judging.{Sized, Grammar, Scoped, Sound};
 use atlite::Tabled;
+use layout::TABLE;
 use parse::Parsed;
 
 // How many different words the text has.
@@ -118,7 +119,7 @@ fn grammar(text: &[u8], table: &mut [u32]) -> Tabled
 pub fn read_text(text: &[u8], table: &mut [u32]) -> Tabled
     ensures { λ r. ⌜ Reads (now (text .entry)) (now (table .entry)) r (now (table .exit)) ⌝ }
 {
-    if table.len() < 1280 {
+    if table.len() < TABLE {
         return Tabled::Refused(6);
     }
     if text.len() == 0 {

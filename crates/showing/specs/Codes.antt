@@ -1,20 +1,21 @@
 -- What the functions that show terms promise. Assumes nothing.
 use mathlib.Core.Path.{_≡_}
 use mathlib.Core.List.{List}
-use Prim.Native.Nat.{ℕ, _≤_}
+use Prim.Native.Nat.{ℕ, _-_, _≤_}
 use lib.ListN.{drop}
+use Rattle.layout.specs.Numbers.{noName, taggedLimit}
 use Rattle.showing.specs.Writing.{most, Wrote}
 use Rattle.showing.specs.Shown.{Text}
 
 -- the name x, or 127
 pub record Name (x r : ℕ) : Type 0 where
   pub is : r ≡ x
-  pub small : r ≤ 127
+  pub small : r ≤ noName
 
 -- the same with its tag
 pub record Tagged (x r : ℕ) : Type 0 where
   pub is : r ≡ x
-  pub small : r ≤ 511
+  pub small : r ≤ taggedLimit - 1
 
 -- so many operands
 pub record Counted (n r : ℕ) : Type 0 where

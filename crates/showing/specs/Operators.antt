@@ -15,6 +15,7 @@ use Rattle.atlite.specs.Table.{writable}
 use Rattle.atlite.specs.Valid.{operable}
 use Rattle.atlite.specs.Script.{SrcOp, kept, ask, resolve, seq}
 use Rattle.atlite.specs.Term.{Name, plain, Op, call, send, written, shape}
+use Rattle.layout.specs.Numbers.{payload, fieldKind, noName}
 use Rattle.layout.specs.Pack.{node}
 use Rattle.layout.specs.Terms.{tagged, opKind, opNode}
 use Rattle.layout.specs.TermLaws.{bare-count, field-payload, field-count, OpFits}
@@ -26,7 +27,7 @@ use Rattle.layout.specs.Parse.{many}
 use Rattle.layout.specs.ParseHeads.{head-op}
 use Rattle.layout.specs.Arity.{arity, head-wants}
 use Rattle.layout.specs.Fitting.{shape-fits}
-use Rattle.showing.specs.Shown.{payload, noName, nameIn, firstIn, second, paramsIn, after, afterIn, operatorIn, headIn, Shown·all}
+use Rattle.showing.specs.Shown.{nameIn, firstIn, second, paramsIn, after, afterIn, operatorIn, headIn, Shown·all}
 use Rattle.showing.specs.Spelling.{Spells}
 use Rattle.showing.specs.Says.{Says, plainly, naming}
 use Rattle.showing.specs.Words.{name-shown, tag-shown, asked-parts}
@@ -52,7 +53,7 @@ module _ (t : List ℕ) (ws : List Bytes) (sp : Spells t ws) where
         let k = opKind o in
         let (_, l, a, b, _, _, _) = op-kind o in
         let low : min 192 k ≡ k = omega arith in
-        rw (kind, low, lt-ltb k 192 (omega arith), lt-ltb k 128 (omega arith), ne-eqb k 11 a, ne-eqb k 12 b, ne-eqb k 65 (λ e. omega arith), w)
+        rw (kind, low, lt-ltb k 192 (omega arith), lt-ltb k fieldKind (omega arith), ne-eqb k 11 a, ne-eqb k 12 b, ne-eqb k 65 (λ e. omega arith), w)
 
     unnamed : rowIn (opKind o) / 16 ≡ 1 → Unasked (opKind o) → after (opNode o n) ≡ noName
     unfolding afterIn

@@ -11,10 +11,11 @@ use Rattle.atlite.specs.Lexicon.{Bytes}
 use Rattle.atlite.specs.Keywords.{methodWord}
 use Rattle.atlite.specs.Printer.{form}
 use Rattle.reading.specs.Items.{behind, behind-append, form-closing}
+use Rattle.layout.specs.Numbers.{payload, fieldKind, nameLimit, noName, taggedLimit, secondPlace, thirdPlace}
 use Rattle.layout.specs.Arity.{arity, arity-header}
 use Rattle.layout.specs.Kinds.{Words}
 use Rattle.layout.specs.KindLaws.{row-none}
-use Rattle.showing.specs.Shown.{payload, noName, nameIn, firstIn, second, placesIn, paramsIn, after, afterIn, count, operatorIn, headIn, Text}
+use Rattle.showing.specs.Shown.{nameIn, firstIn, second, placesIn, paramsIn, after, afterIn, count, operatorIn, headIn, Text}
 
 -- ---- items
 pub behind-text : (items : List Bytes) (j : Bytes) → behind items [] ++ j ≡ behind items j
@@ -52,7 +53,7 @@ module _ {t : List ℕ} {h : ℕ} {key : Bytes} {n : ℕ} (f : ltb (h / payload)
 -- ---- methods
 -- a method's header: its name m, and x y z in the places of its parameters
 module _ (t : List ℕ) (h m x y z : ℕ)
-    (k : 192 ≤ h / payload) (a : h % 128 ≡ m) (b : h / 512 % 128 ≡ x) (c : h / 65536 % 128 ≡ y) (d : h / 8388608 % 128 ≡ z)
+    (k : 192 ≤ h / payload) (a : h % nameLimit ≡ m) (b : h / taggedLimit % nameLimit ≡ x) (c : h / secondPlace % nameLimit ≡ y) (d : h / thirdPlace % nameLimit ≡ z)
   where
     pub says-method : (s p : Bytes) → nameIn t m ≡ 32 ∷ s → placesIn t x y z ≡ 32 ∷ p → Says t h methodWord (s ∷ p ∷ []) [] 1
     unfolding headIn operatorIn firstIn second paramsIn nameIn afterIn Words
@@ -60,6 +61,6 @@ module _ (t : List ℕ) (h m x y z : ℕ)
         let j = h / payload in
         let top : min 192 j ≡ 192 = omega arith in
         plainly (le-ltb j 7 (omega arith))
-        (rw (top, le-ltb j 128 (omega arith), le-ltb j 192 k, ne-eqb j 12 (λ e. omega arith), a, b, c, d, f, g, append-nil p))
+        (rw (top, le-ltb j fieldKind (omega arith), le-ltb j 192 k, ne-eqb j 12 (λ e. omega arith), a, b, c, d, f, g, append-nil p))
         (rw (row-none j (omega arith), ne-eqb j 13 (λ e. omega arith), ne-eqb j 14 (λ e. omega arith), ne-eqb j 64 (λ e. omega arith), ne-eqb j 67 (λ e. omega arith)))
         (arity-header h (omega arith)) (omega arith)

@@ -9,8 +9,9 @@ use borrow.Author.Tests.{lt-ltb, le-ltb}
 use lib.ListN.{length, drop, getD, drop-of-length-le}
 use lib.Dec.{ltb}
 use lib.Seq.{drop-cons}
+use Rattle.layout.specs.Numbers.{payload, noName}
 use Rattle.showing.specs.Writing.{most, Wrote, wrote-none, wrote-two}
-use Rattle.showing.specs.Shown.{payload, nameIn, after, count, headIn, leafIn, operandsIn, formIn, shown}
+use Rattle.showing.specs.Shown.{nameIn, after, count, headIn, leafIn, operandsIn, formIn, shown}
 use Rattle.showing.specs.Codes.{Tagged, Counted, Showed}
 
 -- nothing is written, and the words stay
@@ -66,12 +67,12 @@ module _ (t : List ℕ) (n x k at : ℕ) (old : List ℕ) (o : ℕ) where
   operands-none e h = rw e (stays t old at o h)
 
   pub operands-more : (m₁ m₂ m₃ new : List ℕ) (a i b c j d : ℕ) → (k ≡ 0 → ⊥) → Wrote old o (32 ∷ []) m₁ a → Showed t (shown t n (drop at t)) m₁ a m₂ i b
-      → Wrote m₂ b (nameIn t x) m₃ c → Showed t (operandsIn t (shown t n) 127 (k - 1) (drop i t)) m₃ c new j d
+      → Wrote m₂ b (nameIn t x) m₃ c → Showed t (operandsIn t (shown t n) noName (k - 1) (drop i t)) m₃ c new j d
       → Showed t (operandsIn t (shown t n) x k (drop at t)) old o new j d
   unfolding operandsIn
   operands-more m₁ m₂ m₃ new a i b c j d f e g h l = more k f (rw (g .rest) at l)
     where
-      more : (k : ℕ) → (k ≡ 0 → ⊥) → Showed t (operandsIn t (shown t n) 127 (k - 1) (shown t n (drop at t) .rest)) m₃ c new j d
+      more : (k : ℕ) → (k ≡ 0 → ⊥) → Showed t (operandsIn t (shown t n) noName (k - 1) (shown t n (drop at t) .rest)) m₃ c new j d
           → Showed t (operandsIn t (shown t n) x k (drop at t)) old o new j d
       more zero f l = absurd (f refl)
       more (suc k) f l =

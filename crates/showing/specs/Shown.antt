@@ -11,14 +11,11 @@ use Rattle.atlite.specs.Base.{bytes}
 use Rattle.atlite.specs.Lexicon.{Bytes}
 use Rattle.atlite.specs.Keywords.{nullWord, thisWord}
 use Rattle.atlite.specs.Printer.{printNumber}
+use Rattle.layout.specs.Numbers.{payload, fieldKind, nameLimit, noName, taggedLimit, secondPlace, thirdPlace, numberLimit, ownerUnit, ownerLimit}
 use Rattle.layout.specs.Kinds.{Kinds, Words, rowIn, wordIn as wordOf}
 use Rattle.layout.specs.Arity.{arity}
 
 -- ---- names
--- no name stands here
-abbrev pub noName : ℕ
-noName = 127
-
 -- a byte of a word; zero is none
 unfoldable pub letterIn : ℕ → Bytes
 letterIn b = cond (eqb b 0) [] (b ∷ [])
@@ -42,7 +39,7 @@ wordIn t x =
 -- a name with its tag: plain, two-way, `.resolve`, `.register`
 unfoldable pub taggedIn : List ℕ → ℕ → Bytes
 taggedIn t c =
-    cond (ltb c 128) (wordIn t c) (cond (ltb c 256) (wordIn t (c - 128) ++ bytes ".f")
+    cond (ltb c nameLimit) (wordIn t c) (cond (ltb c 256) (wordIn t (c - nameLimit) ++ bytes ".f")
     (cond (ltb c 384) (bytes ".resolve") (bytes ".register")))
 
 -- the same behind a space
@@ -50,19 +47,16 @@ unfoldable pub nameIn : List ℕ → ℕ → Bytes
 nameIn t c = cond (eqb c noName) [] ((32 ∷ []) ++ taggedIn t c)
 
 -- ---- one word of a term
-abbrev pub payload : ℕ
-payload = 16777216
-
 -- the name behind the operator, of a let, a future, a function or a header
 unfoldable pub firstIn : ℕ → ℕ → ℕ
-firstIn k h = cond (ltb k 128) (cond (eqb k 11) (h % 128) (cond (eqb k 12) (h % 128) (cond (eqb k 65) (h % 128) noName))) (h % 128)
+firstIn k h = cond (ltb k fieldKind) (cond (eqb k 11) (h % nameLimit) (cond (eqb k 12) (h % nameLimit) (cond (eqb k 65) (h % nameLimit) noName))) (h % nameLimit)
 
 abbrev pub first : ℕ → ℕ
 first h = firstIn (h / payload) h
 
 -- the name behind that one
 unfoldable pub second : ℕ → ℕ
-second h = cond (eqb (h / payload) 12) (h / 128 % 128) noName
+second h = cond (eqb (h / payload) 12) (h / nameLimit % nameLimit) noName
 
 -- three names in brackets, behind a space
 unfoldable pub openIn : List ℕ → ℕ → Bytes
@@ -73,13 +67,13 @@ placesIn t x y z = openIn t x ++ (nameIn t y ++ (nameIn t z ++ (41 ∷ [])))
 
 -- the parameters of a method
 unfoldable pub paramsIn : List ℕ → ℕ → Bytes
-paramsIn t h = cond (ltb (h / payload) 192) [] (placesIn t (h / 512 % 128) (h / 65536 % 128) (h / 8388608 % 128))
+paramsIn t h = cond (ltb (h / payload) 192) [] (placesIn t (h / taggedLimit % nameLimit) (h / secondPlace % nameLimit) (h / thirdPlace % nameLimit))
 
 -- the name behind the first operand, with its tag: of an operator with a field's name, of a call, a send or an ask, of a when
 unfoldable pub afterIn : ℕ → ℕ → ℕ
 afterIn k h =
-    cond (eqb (rowIn k / 16) 2) (h % 128) (cond (eqb k 13) (h % 512) (cond (eqb k 14) (h % 512) (cond (eqb k 64) (h % 512)
-    (cond (eqb k 67) (h % 128) noName))))
+    cond (eqb (rowIn k / 16) 2) (h % nameLimit) (cond (eqb k 13) (h % taggedLimit) (cond (eqb k 14) (h % taggedLimit) (cond (eqb k 64) (h % taggedLimit)
+    (cond (eqb k 67) (h % nameLimit) noName))))
 
 abbrev pub after : ℕ → ℕ
 after h = afterIn (h / payload) h
@@ -104,13 +98,13 @@ unfoldable pub ownerIn : ℕ → Bytes
 ownerIn a = bytes "(ref " ++ printNumber a
 
 unfoldable pub refIn : ℕ → Bytes
-refIn h = ownerIn (h / 131072 % 128) ++ (seriesIn (h / 65536 % 2) ++ (printNumber (h % 65536) ++ (41 ∷ [])))
+refIn h = ownerIn (h / ownerUnit % ownerLimit) ++ (seriesIn (h / numberLimit % 2) ++ (printNumber (h % numberLimit) ++ (41 ∷ [])))
 
 -- a word with no operands: a value or a variable
 unfoldable pub leafIn : List ℕ → ℕ → Bytes
 leafIn t h =
     cond (eqb (h / payload) 1) nullWord (cond (eqb (h / payload) 2) (printNumber (h % payload))
-    (cond (eqb (h / payload) 3) (refIn h) (wordIn t (h % 128))))
+    (cond (eqb (h / payload) 3) (refIn h) (wordIn t (h % nameLimit))))
 
 -- ---- terms
 -- a text, and the words that are left

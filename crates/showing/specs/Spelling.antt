@@ -11,12 +11,13 @@ use lib.ListN.{length, getD, List·getD-eq-default}
 use Rattle.atlite.specs.Base.{bytes, if_then_else_}
 use Rattle.atlite.specs.Lexicon.{Bytes}
 use Rattle.atlite.specs.Printer.{printWord, known}
+use Rattle.layout.specs.Numbers.{noName}
 use Rattle.layout.specs.Pack.{zeros, flat}
 use Rattle.layout.specs.PackLaws.{Each, pack-low, pack-high}
 use Rattle.layout.specs.Layout.{bytesNumber, threeWords, encodeWord}
 use Rattle.layout.specs.Whole.{ByteFits, WordFits}
 use Rattle.layout.specs.Bits.{word-small}
-use Rattle.showing.specs.Shown.{noName, letterIn, lettersIn, knownIn, wordIn}
+use Rattle.showing.specs.Shown.{letterIn, lettersIn, knownIn, wordIn}
 
 -- ---- one word
 -- at most k letters, the first lowest

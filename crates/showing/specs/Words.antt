@@ -13,6 +13,7 @@ use Rattle.atlite.specs.Keywords.{printKind, letWord, futureWord, fnWord, whenW
 use Rattle.atlite.specs.Listing.{printSeries, printValue}
 use Rattle.atlite.specs.Term.{made, copied, Value, null, num, ref, Name, plain, twoWay, resolve, register, Kind}
 use Rattle.reading.specs.Items.{behind, form-closing}
+use Rattle.layout.specs.Numbers.{payload, fieldKind, nameLimit, noName, tagLimit, taggedLimit, pairLimit, placesLimit, numberLimit, ownerUnit, ownerLimit, exprSize}
 use Rattle.layout.specs.Pack.{node, places}
 use Rattle.layout.specs.PackLaws.{NameFits, Each}
 use Rattle.layout.specs.Terms.{variable, seriesBit, encodeValue, tagged, asked, kindNumber, methodHeader}
@@ -20,12 +21,12 @@ use Rattle.layout.specs.TermLaws.{ValueFits, NameOk}
 use Rattle.layout.specs.Parse.{parts}
 use Rattle.layout.specs.ParseHeads.{head-literal}
 use Rattle.layout.specs.Arity.{arity, head-wants}
-use Rattle.showing.specs.Shown.{payload, noName, wordIn, taggedIn, nameIn, openIn, placesIn, seriesIn, ownerIn, refIn, leafIn, shown, Shown·all}
+use Rattle.showing.specs.Shown.{wordIn, taggedIn, nameIn, openIn, placesIn, seriesIn, ownerIn, refIn, leafIn, shown, Shown·all}
 use Rattle.showing.specs.Spelling.{Spells, spelt, unspelt}
 use Rattle.showing.specs.Says.{Says, showing, plainly, naming, says-method}
 
 -- ---- names and tags
-pub tag-small : (m : Name) → NameOk m → tagged m < 512
+pub tag-small : (m : Name) → NameOk m → tagged m < exprSize
 unfolding tagged
 tag-small (plain m) h = omega arith
 tag-small (twoWay m) h = omega arith
@@ -34,29 +35,29 @@ tag-small register h = omega arith
 
 -- What is packed into a word comes out again: a name, a name with its tag and a number of arguments, two names,
 -- two numbers of parts.
-pub node-parts : (k x : ℕ) → NameFits x → (node k x / payload ≡ k) × (node k x % 128 ≡ x)
+pub node-parts : (k x : ℕ) → NameFits x → (node k x / payload ≡ k) × (node k x % nameLimit ≡ x)
 node-parts k x g = omega arith
 
 pub asked-parts : (k : ℕ) (m : Name) (n : ℕ) → NameOk m → n < 8
-    → (node k (asked m n) / payload ≡ k) × (node k (asked m n) % 512 ≡ tagged m) × (node k (asked m n) % payload / 128 / 4 ≡ n) × (node k (asked m n) / 512 % 8 ≡ n)
+    → (node k (asked m n) / payload ≡ k) × (node k (asked m n) % taggedLimit ≡ tagged m) × (node k (asked m n) % payload / nameLimit / tagLimit ≡ n) × (node k (asked m n) / taggedLimit % 8 ≡ n)
 asked-parts k m n h l = let i = tag-small m h in omega arith
 
-future-parts : (x y : ℕ) → NameFits x → NameFits y → (node 12 (x + 128 * y) / payload ≡ 12) × (node 12 (x + 128 * y) % 128 ≡ x) × (node 12 (x + 128 * y) / 128 % 128 ≡ y)
+future-parts : (x y : ℕ) → NameFits x → NameFits y → (node 12 (x + nameLimit * y) / payload ≡ 12) × (node 12 (x + nameLimit * y) % nameLimit ≡ x) × (node 12 (x + nameLimit * y) / nameLimit % nameLimit ≡ y)
 future-parts x y f g = omega arith
 
 module _ (t : List ℕ) (ws : List Bytes) (sp : Spells t ws) where
   pub name-shown : (x : ℕ) → NameFits x → nameIn t x ≡ 32 ∷ printWord ws x
   unfolding nameIn taggedIn
-  name-shown x g = rw (ne-eqb x noName (λ e. omega arith), lt-ltb x 128 (omega arith), spelt t ws sp x)
+  name-shown x g = rw (ne-eqb x noName (λ e. omega arith), lt-ltb x nameLimit (omega arith), spelt t ws sp x)
 
   pub tag-shown : (m : Name) → NameOk m → nameIn t (tagged m) ≡ 32 ∷ printName ws m
   unfolding nameIn taggedIn tagged printName bytes
   tag-shown (plain m) g =
-      let z : m + 128 * 0 ≡ m = omega arith in
-      rw (z, ne-eqb m noName (λ e. omega arith), lt-ltb m 128 (omega arith), spelt t ws sp m)
+      let z : m + nameLimit * 0 ≡ m = omega arith in
+      rw (z, ne-eqb m noName (λ e. omega arith), lt-ltb m nameLimit (omega arith), spelt t ws sp m)
   tag-shown (twoWay m) g =
-      let z : (m + 128 * 1) - 128 ≡ m = omega arith in
-      rw (ne-eqb (m + 128 * 1) noName (λ e. omega arith), le-ltb (m + 128 * 1) 128 (omega arith), lt-ltb (m + 128 * 1) 256 (omega arith), z, spelt t ws sp m)
+      let z : (m + nameLimit * 1) - nameLimit ≡ m = omega arith in
+      rw (ne-eqb (m + nameLimit * 1) noName (λ e. omega arith), le-ltb (m + nameLimit * 1) nameLimit (omega arith), lt-ltb (m + nameLimit * 1) 256 (omega arith), z, spelt t ws sp m)
   tag-shown resolve g = refl
   tag-shown register g = refl
 
@@ -70,7 +71,7 @@ module _ (t : List ℕ) (ws : List Bytes) (sp : Spells t ws) where
       ∙ sym (form-closing (bytes "ref") (printNumber a ∷ u ∷ printNumber n ∷ []) [])
       ∙ append-nil (form (bytes "ref" ∷ printNumber a ∷ u ∷ printNumber n ∷ []))
 
-  module _ (h a s n : ℕ) (e : h / 131072 % 128 ≡ a) (f : h / 65536 % 2 ≡ s) (g : h % 65536 ≡ n) (k : h / payload ≡ 3) where
+  module _ (h a s n : ℕ) (e : h / ownerUnit % ownerLimit ≡ a) (f : h / numberLimit % 2 ≡ s) (g : h % numberLimit ≡ n) (k : h / payload ≡ 3) where
     ref-shown : (u : Bytes) → seriesIn s ≡ 32 ∷ (u ++ (32 ∷ [])) → leafIn t h ≡ form (bytes "ref" ∷ printNumber a ∷ u ∷ printNumber n ∷ [])
     unfolding leafIn refIn
     ref-shown u d = rw (k, e, f, g) (ref-text a s n u d)
@@ -79,8 +80,8 @@ module _ (t : List ℕ) (ws : List Bytes) (sp : Spells t ws) where
   unfolding leafIn encodeValue printValue printSeries seriesIn seriesBit bytes
   leaf-shown null h = refl
   leaf-shown (num n) h =
-      let z : (n + 16777216 * 2) / payload ≡ 2 = omega arith in
-      let y : (n + 16777216 * 2) % payload ≡ n = omega arith in
+      let z : (n + payload * 2) / payload ≡ 2 = omega arith in
+      let y : (n + payload * 2) % payload ≡ n = omega arith in
       rw (z, y)
   leaf-shown (ref a made n) h = let i = h .0 in let j = h .1 in
       ref-shown (encodeValue (ref a made n)) a 0 n (omega arith) (omega arith) (omega arith) (omega arith) (bytes "m") refl
@@ -119,9 +120,9 @@ module _ (t : List ℕ) (ws : List Bytes) (sp : Spells t ws) where
     unfolding Shown·all bytes
     fn-says = let (e, f) = node-parts 65 x g in plainly (rw e) (rw (e, f) (opening fnWord)) (rw e) (rw e) (omega arith)
 
-    pub field-says : Says t (node 128 x) fieldWord (printWord ws x ∷ []) [] 1
+    pub field-says : Says t (node fieldKind x) fieldWord (printWord ws x ∷ []) [] 1
     unfolding Shown·all bytes
-    field-says = let (e, f) = node-parts 128 x g in plainly (rw e) (rw (e, f) (opening fieldWord)) (rw e) (rw e) (omega arith)
+    field-says = let (e, f) = node-parts fieldKind x g in plainly (rw e) (rw (e, f) (opening fieldWord)) (rw e) (rw e) (omega arith)
 
     pub def-says : Says t (node 130 x) defWord (printWord ws x ∷ []) [] 1
     unfolding Shown·all bytes
@@ -131,7 +132,7 @@ module _ (t : List ℕ) (ws : List Bytes) (sp : Spells t ws) where
     unfolding Shown·all bytes
     when-says = let (e, f) = node-parts 67 x g in naming (rw e) x (name-shown x g) (rw e) (rw (e, f)) (rw e) (omega arith) (omega arith)
 
-    pub future-says : (y : ℕ) → NameFits y → Says t (node 12 (x + 128 * y)) futureWord (printWord ws x ∷ printWord ws y ∷ []) [] 1
+    pub future-says : (y : ℕ) → NameFits y → Says t (node 12 (x + nameLimit * y)) futureWord (printWord ws x ∷ printWord ws y ∷ []) [] 1
     unfolding Shown·all bytes
     future-says y i =
         let (e, a, b) = future-parts x y g i in
@@ -157,33 +158,33 @@ module _ (t : List ℕ) (ws : List Bytes) (sp : Spells t ws) where
       rw (e, f) (ap {B = Bytes} (λ u. 32 ∷ u) (sym (form-closing v items []) ∙ append-nil (form (v ∷ items))))
 
   -- the word before its places: name m, count n, places p
-  module _ (m n p : ℕ) (f : m < 127) (g : n ≤ 3) where
-    method-says : (x y z : ℕ) (u : Bytes) → p < 2097152 → p % 128 ≡ x → p / 128 % 128 ≡ y → p / 16384 % 128 ≡ z → placesIn t x y z ≡ 32 ∷ u
-        → Says t (m + 128 * (n + 4 * (p + 2097152 * 3))) methodWord (printWord ws m ∷ u ∷ []) [] 1
+  module _ (m n p : ℕ) (f : m < noName) (g : n ≤ 3) where
+    method-says : (x y z : ℕ) (u : Bytes) → p < placesLimit → p % nameLimit ≡ x → p / nameLimit % nameLimit ≡ y → p / pairLimit % nameLimit ≡ z → placesIn t x y z ≡ 32 ∷ u
+        → Says t (m + nameLimit * (n + 4 * (p + placesLimit * 3))) methodWord (printWord ws m ∷ u ∷ []) [] 1
     method-says x y z u l a b c e =
-        let h = m + 128 * (n + 4 * (p + 2097152 * 3)) in
-        let q : h / 512 ≡ p + 6291456 = omega arith in
+        let h = m + nameLimit * (n + 4 * (p + placesLimit * 3)) in
+        let q : h / taggedLimit ≡ p + 6291456 = omega arith in
         says-method t h m x y z (omega arith) (omega arith) (omega arith) (omega arith) (omega arith) (printWord ws m) u (name-shown m f) e
 
   pub header-says : (m : ℕ) (xs : List ℕ) → NameFits m → Each NameFits xs → length xs ≤ 3
       → Says t (methodHeader m xs) methodWord (printWord ws m ∷ form (map (printWord ws) xs) ∷ []) [] 1
   unfolding methodHeader places placesIn openIn nameIn form printItems
   header-says m [] f g l =
-      method-says m 0 (127 + 128 * (127 + 128 * 127)) f (omega arith) 127 127 127 (form []) (omega arith) (omega arith) (omega arith) (omega arith)
+      method-says m 0 (noName + nameLimit * (noName + nameLimit * noName)) f (omega arith) noName noName noName (form []) (omega arith) (omega arith) (omega arith) (omega arith)
       (rw (unspelt t ws sp))
   header-says m (x ∷ []) f g l =
       let a = g .0 in
-      method-says m 1 (x + 128 * (127 + 128 * 127)) f (omega arith) x 127 127 _ (omega arith) (omega arith) (omega arith) (omega arith)
+      method-says m 1 (x + nameLimit * (noName + nameLimit * noName)) f (omega arith) x noName noName _ (omega arith) (omega arith) (omega arith) (omega arith)
       (params-text x (printWord ws x) [] [] [] (spelt t ws sp x) refl)
   header-says m (x ∷ y ∷ []) f g l =
       let a = g .0 in
       let b = g .1 .0 in
-      method-says m 2 (x + 128 * (y + 128 * 127)) f (omega arith) x y 127 _ (omega arith) (omega arith) (omega arith) (omega arith)
+      method-says m 2 (x + nameLimit * (y + nameLimit * noName)) f (omega arith) x y noName _ (omega arith) (omega arith) (omega arith) (omega arith)
       (params-text x (printWord ws x) (printWord ws y ∷ []) (nameIn t y) [] (spelt t ws sp x) (ap {B = Bytes} (λ u. u ++ (41 ∷ [])) (name-shown y b)))
   header-says m (x ∷ y ∷ z ∷ []) f g l =
       let a = g .0 in
       let b = g .1 .0 in
       let c = g .1 .1 .0 in
-      method-says m 3 (x + 128 * (y + 128 * z)) f (omega arith) x y z _ (omega arith) (omega arith) (omega arith) (omega arith)
+      method-says m 3 (x + nameLimit * (y + nameLimit * z)) f (omega arith) x y z _ (omega arith) (omega arith) (omega arith) (omega arith)
       (params-text x (printWord ws x) (printWord ws y ∷ printWord ws z ∷ []) (nameIn t y) (nameIn t z) (spelt t ws sp x) (ap₂ {C = Bytes} (λ u v. u ++ (v ++ (41 ∷ []))) (name-shown y b) (name-shown z c)))
   header-says m (x ∷ y ∷ z ∷ u ∷ xs) f g l = absurd (omega arith)

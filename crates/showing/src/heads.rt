@@ -1,11 +1,16 @@
 // What a word says of its form, and the text before its operands.
 ghost use Prim.Native.Nat.{_≤_};
 ghost use lib.ListN.{length};
+ghost use Rattle.layout.specs.Numbers.{noName, headSize};
 ghost use Rattle.showing.specs.Writing.{Wrote};
 ghost use Rattle.showing.specs.Shown.{first, second, after, count, openIn, placesIn, paramsIn, operatorIn, headIn};
 ghost use Rattle.showing.specs.Codes.{Name, Tagged, Counted};
 use crate::text;
+use layout::NAME_LIMIT;
 use layout::PAYLOAD;
+use layout::SECOND_PLACE;
+use layout::TAGGED_LIMIT;
+use layout::THIRD_PLACE;
 
 // The name behind the operator of the word `h`, or 127.
 fn first_name(h: u32) -> usize
@@ -13,12 +18,12 @@ fn first_name(h: u32) -> usize
 {
     let k = h / PAYLOAD;
     if 128 <= k {
-        return (h % 128) as usize;
+        return (h % NAME_LIMIT) as usize;
     }
     match k {
-        11 => (h % 128) as usize,
-        12 => (h % 128) as usize,
-        65 => (h % 128) as usize,
+        11 => (h % NAME_LIMIT) as usize,
+        12 => (h % NAME_LIMIT) as usize,
+        65 => (h % NAME_LIMIT) as usize,
         _ => text::NO_NAME,
     }
 }
@@ -28,7 +33,7 @@ fn second_name(h: u32) -> usize
     ensures { λ r. ⌜ Name (second h) r ⌝ }
 {
     if h / PAYLOAD == 12 {
-        return (h / 128 % 128) as usize;
+        return (h / NAME_LIMIT % NAME_LIMIT) as usize;
     }
     text::NO_NAME
 }
@@ -39,13 +44,13 @@ pub fn name_after(h: u32) -> usize
 {
     let k = h / PAYLOAD;
     if layout::kinds::operator(k) == 2 {
-        return (h % 128) as usize;
+        return (h % NAME_LIMIT) as usize;
     }
     match k {
-        13 => (h % 512) as usize,
-        14 => (h % 512) as usize,
-        64 => (h % 512) as usize,
-        67 => (h % 128) as usize,
+        13 => (h % TAGGED_LIMIT) as usize,
+        14 => (h % TAGGED_LIMIT) as usize,
+        64 => (h % TAGGED_LIMIT) as usize,
+        67 => (h % NAME_LIMIT) as usize,
         _ => text::NO_NAME,
     }
 }
@@ -63,7 +68,7 @@ pub fn operand_count(h: u32) -> usize
 
 // The first of the names in brackets, behind a space and the bracket.
 fn put_open(t: &[u32], x: usize, out: &mut [u8], o: usize) -> usize
-    requires { ⌜ (o ≤ 1099511627776) × (256 ≤ length (now t)) × (x ≤ 127) ⌝ }
+    requires { ⌜ (o ≤ 1099511627776) × (headSize ≤ length (now t)) × (x ≤ noName) ⌝ }
     ensures { λ r. ⌜ Wrote (now (out .entry)) o (openIn (now (t .entry)) x) (now (out .exit)) r ⌝ }
 {
     let p = text::put_bytes(b" (", out, o);
@@ -72,7 +77,7 @@ fn put_open(t: &[u32], x: usize, out: &mut [u8], o: usize) -> usize
 
 // Names in brackets, behind a space; an empty place has the name 127.
 fn put_places(t: &[u32], x: usize, y: usize, z: usize, out: &mut [u8], o: usize) -> usize
-    requires { ⌜ (o ≤ 1099511627776) × (256 ≤ length (now t)) × (x ≤ 127) × (y ≤ 127) × (z ≤ 127) ⌝ }
+    requires { ⌜ (o ≤ 1099511627776) × (headSize ≤ length (now t)) × (x ≤ noName) × (y ≤ noName) × (z ≤ noName) ⌝ }
     ensures { λ r. ⌜ Wrote (now (out .entry)) o (placesIn (now (t .entry)) x y z) (now (out .exit)) r ⌝ }
 {
     let a = put_open(t, x, out, o);
@@ -83,15 +88,15 @@ fn put_places(t: &[u32], x: usize, y: usize, z: usize, out: &mut [u8], o: usize)
 
 // A method's parameters.
 fn put_params(t: &[u32], h: u32, out: &mut [u8], o: usize) -> usize
-    requires { ⌜ (o ≤ 1099511627776) × (256 ≤ length (now t)) ⌝ }
+    requires { ⌜ (o ≤ 1099511627776) × (headSize ≤ length (now t)) ⌝ }
     ensures { λ r. ⌜ Wrote (now (out .entry)) o (paramsIn (now (t .entry)) h) (now (out .exit)) r ⌝ }
 {
     if h / PAYLOAD < 192 {
         return o;
     }
-    let x = (h / 512 % 128) as usize;
-    let y = (h / 65536 % 128) as usize;
-    let z = (h / 8388608 % 128) as usize;
+    let x = (h / TAGGED_LIMIT % NAME_LIMIT) as usize;
+    let y = (h / SECOND_PLACE % NAME_LIMIT) as usize;
+    let z = (h / THIRD_PLACE % NAME_LIMIT) as usize;
     put_places(t, x, y, z, out, o)
 }
 
@@ -109,7 +114,7 @@ fn put_operator(k: u32, out: &mut [u8], o: usize) -> usize
 
 // What stands before the operands of the word `h`.
 pub fn put_head(t: &[u32], h: u32, out: &mut [u8], o: usize) -> usize
-    requires { ⌜ (o ≤ 1099511627776) × (256 ≤ length (now t)) ⌝ }
+    requires { ⌜ (o ≤ 1099511627776) × (headSize ≤ length (now t)) ⌝ }
     ensures { λ r. ⌜ Wrote (now (out .entry)) o (headIn (now (t .entry)) h) (now (out .exit)) r ⌝ }
 {
     let x = first_name(h);

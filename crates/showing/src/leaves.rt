@@ -1,9 +1,14 @@
 // The text of a word with no operands: a value or a variable.
 ghost use Prim.Native.Nat.{_≤_, _<_};
 ghost use lib.ListN.{length};
+ghost use Rattle.layout.specs.Numbers.{ownerLimit, headSize};
 ghost use Rattle.showing.specs.Writing.{Wrote};
 ghost use Rattle.showing.specs.Shown.{seriesIn, ownerIn, refIn, leafIn};
 use crate::text;
+use layout::NAME_LIMIT;
+use layout::NUMBER_LIMIT;
+use layout::OWNER_LIMIT;
+use layout::OWNER_UNIT;
 use layout::PAYLOAD;
 
 // A series, between two numbers.
@@ -19,7 +24,7 @@ pub fn put_series(s: u32, out: &mut [u8], o: usize) -> usize
 
 // The actor of a reference.
 fn put_owner(a: u32, out: &mut [u8], o: usize) -> usize
-    requires { ⌜ (o ≤ 1099511627776) × (a < 128) ⌝ }
+    requires { ⌜ (o ≤ 1099511627776) × (a < ownerLimit) ⌝ }
     ensures { λ r. ⌜ Wrote (now (out .entry)) o (ownerIn a) (now (out .exit)) r ⌝ }
 {
     let p = text::put_bytes(b"(ref ", out, o);
@@ -31,21 +36,21 @@ fn put_ref(h: u32, out: &mut [u8], o: usize) -> usize
     requires { ⌜ o ≤ 1099511627776 ⌝ }
     ensures { λ r. ⌜ Wrote (now (out .entry)) o (refIn h) (now (out .exit)) r ⌝ }
 {
-    let a = put_owner(h / 131072 % 128, out, o);
-    let b = put_series(h / 65536 % 2, out, a);
-    let c = text::put_number(h % 65536, out, b);
+    let a = put_owner(h / OWNER_UNIT % OWNER_LIMIT, out, o);
+    let b = put_series(h / NUMBER_LIMIT % 2, out, a);
+    let c = text::put_number(h % NUMBER_LIMIT, out, b);
     text::put(b')', out, c)
 }
 
 // A word of a kind below 7: a value or a variable.
 pub fn put_leaf(t: &[u32], h: u32, out: &mut [u8], o: usize) -> usize
-    requires { ⌜ (o ≤ 1099511627776) × (256 ≤ length (now t)) ⌝ }
+    requires { ⌜ (o ≤ 1099511627776) × (headSize ≤ length (now t)) ⌝ }
     ensures { λ r. ⌜ Wrote (now (out .entry)) o (leafIn (now (t .entry)) h) (now (out .exit)) r ⌝ }
 {
     match h / PAYLOAD {
         1 => text::put_keyword(1, out, o),
         2 => text::put_number(h % PAYLOAD, out, o),
         3 => put_ref(h, out, o),
-        _ => text::put_word(t, (h % 128) as usize, out, o),
+        _ => text::put_word(t, (h % NAME_LIMIT) as usize, out, o),
     }
 }

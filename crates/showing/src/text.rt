@@ -1,14 +1,15 @@
 // Bytes put into a text: numbers, words of a dictionary, names with their tags and the words that the grammar keeps for itself.
 ghost use mathlib.Core.List.{[], _∷_};
-ghost use Prim.Native.Nat.{_≤_, _<_};
+ghost use Prim.Native.Nat.{_-_, _≤_, _<_};
 ghost use lib.ListN.{length};
 ghost use Rattle.atlite.specs.Printer.{printNumber};
+ghost use Rattle.layout.specs.Numbers.{noName, taggedLimit, headSize};
 ghost use Rattle.layout.specs.Kinds.{wordIn as wordOf};
 ghost use Rattle.showing.specs.Writing.{Wrote};
 ghost use Rattle.showing.specs.Shown.{letterIn, lettersIn, knownIn, wordIn, taggedIn, nameIn};
 
 // The number that is no name.
-pub const NO_NAME: usize = 127;
+pub const NO_NAME: usize = layout::NO_NAME as usize;
 
 // Where positions stop.
 const MOST: usize = 1099511627776;
@@ -93,7 +94,7 @@ fn put_known(x: usize, out: &mut [u8], o: usize) -> usize
 
 // The word of number `x`. A dictionary has at most 64 words, and zeros stand behind its last one.
 pub fn put_word(t: &[u32], x: usize, out: &mut [u8], o: usize) -> usize
-    requires { ⌜ (o ≤ 1099511627776) × (256 ≤ length (now t)) × (x ≤ 127) ⌝ }
+    requires { ⌜ (o ≤ 1099511627776) × (headSize ≤ length (now t)) × (x ≤ noName) ⌝ }
     ensures { λ r. ⌜ Wrote (now (out .entry)) o (wordIn (now (t .entry)) x) (now (out .exit)) r ⌝ }
 {
     if x < 8 {
@@ -109,7 +110,7 @@ pub fn put_word(t: &[u32], x: usize, out: &mut [u8], o: usize) -> usize
 
 // A name with its tag: the word alone, the word with the two-way mark, or a name that no script can write.
 fn put_tagged(t: &[u32], c: usize, out: &mut [u8], o: usize) -> usize
-    requires { ⌜ (o ≤ 1099511627776) × (256 ≤ length (now t)) × (c ≤ 511) ⌝ }
+    requires { ⌜ (o ≤ 1099511627776) × (headSize ≤ length (now t)) × (c ≤ taggedLimit - 1) ⌝ }
     ensures { λ r. ⌜ Wrote (now (out .entry)) o (taggedIn (now (t .entry)) c) (now (out .exit)) r ⌝ }
 {
     if c < 128 {
@@ -127,7 +128,7 @@ fn put_tagged(t: &[u32], c: usize, out: &mut [u8], o: usize) -> usize
 
 // The same behind a space.
 pub fn put_name(t: &[u32], c: usize, out: &mut [u8], o: usize) -> usize
-    requires { ⌜ (o ≤ 1099511627776) × (256 ≤ length (now t)) × (c ≤ 511) ⌝ }
+    requires { ⌜ (o ≤ 1099511627776) × (headSize ≤ length (now t)) × (c ≤ taggedLimit - 1) ⌝ }
     ensures { λ r. ⌜ Wrote (now (out .entry)) o (nameIn (now (t .entry)) c) (now (out .exit)) r ⌝ }
 {
     if c == NO_NAME {

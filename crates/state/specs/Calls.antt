@@ -16,7 +16,8 @@ use Rattle.atlite.specs.Listing.{listing}
 use Rattle.atlite.specs.Answers.{listAnswer}
 use Rattle.atlite.specs.declared.Listed.{Listed}
 use Rattle.atlite.specs.declared.Listed.the-variants.{Bytes, Refused}
-use Rattle.layout.specs.Layout.{stateWords, encode}
+use Rattle.layout.specs.Numbers.{stateWords}
+use Rattle.layout.specs.Layout.{encode}
 use Rattle.layout.specs.Decode.{stateOf}
 use Rattle.layout.specs.Laws.{state-of-iff}
 use Rattle.layout.specs.Meaning.{answered, stateIn, lent, listCall}
@@ -51,15 +52,15 @@ pub is-told : (w : List ℕ) (r : Bool) → r ≡ isDone (stateIn w) → r ≡ t
 is-told w r e d = sym e ∙ d
 
 module _ (w old : List ℕ) where
-  pub no-room : length w < 16384 → ListsCall w old (Refused 6) old
+  pub no-room : length w < stateWords → ListsCall w old (Refused 6) old
   unfolding ListsCall listAnswer listCall answered lent
   no-room h = rw (room-short stateWords w h) (refl, refl)
 
-  pub no-state : 16384 ≤ length w → (r : Bool) → r ≡ isDone (stateIn w) → r ≡ false → ListsCall w old (Refused 7) old
+  pub no-state : stateWords ≤ length w → (r : Bool) → r ≡ isDone (stateIn w) → r ≡ false → ListsCall w old (Refused 7) old
   unfolding ListsCall listAnswer listCall answered lent stateIn
   no-state h r e d = rw (room-enough stateWords w h, refused-told (stateOf (take stateWords w)) (sym e ∙ d)) (refl, refl)
 
-  module _ (h : (16384 ≤ length w) × (isDone (stateIn w) ≡ true)) where
+  module _ (h : (stateWords ≤ length w) × (isDone (stateIn w) ≡ true)) where
     abbrev here : (σ : State) × (stateIn w ≡ done σ)
     here = done-told (stateIn w) (h .1)
 

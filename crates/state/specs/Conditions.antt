@@ -9,6 +9,7 @@ use mir.Val.{Fits}
 use mir.Syntax.{w32}
 use Rattle.atlite.specs.State.{State}
 use Rattle.atlite.specs.Valid.{IsState}
+use Rattle.layout.specs.Numbers.{partSize, headSize, stateWords, wordSize}
 use Rattle.layout.specs.Pack.{zeros}
 use Rattle.layout.specs.Layout.{encode}
 use Rattle.dictionary.specs.Entries.{entriesHold}
@@ -17,7 +18,7 @@ use Rattle.kinds.specs.Table.{rows, FewAll}
 
 -- 16,384 words of 32 bits
 pub record Words (w : List ℕ) : Type 0 where
-  pub count : length w ≡ 16384
+  pub count : length w ≡ stateWords
   pub small : (i : ℕ) → Fits w32 (getD w i 0)
 
 -- the head, and zeros behind what it says is used
@@ -26,13 +27,13 @@ pub record HeadHolds (w : List ℕ) : Type 0 where
   pub actors : getD w 0 0 ≤ 4
   pub words : getD w 1 0 ≤ 64
   pub dictionary : entriesHold w 2 (getD w 1 0) ≡ true
-  pub spare : take (256 - (2 + 3 * getD w 1 0)) (drop (2 + 3 * getD w 1 0) w) ≡ zeros (256 - (2 + 3 * getD w 1 0))
-  pub rest : drop (256 + 3200 * getD w 0 0) w ≡ zeros (16384 - (256 + 3200 * getD w 0 0))
+  pub spare : take (headSize - (2 + wordSize * getD w 1 0)) (drop (2 + wordSize * getD w 1 0) w) ≡ zeros (headSize - (2 + wordSize * getD w 1 0))
+  pub rest : drop (headSize + partSize * getD w 0 0) w ≡ zeros (stateWords - (headSize + partSize * getD w 0 0))
 
 -- the n parts that p begins with are those of the actors from a on
 unfoldable pub PartsHold : List ℕ → ℕ → ℕ → ℕ → List ℕ → Type 0
 PartsHold K W a zero p = Unit {0}
-PartsHold K W a (suc n) p = IsPart K a W (take 3200 p) × PartsHold K W (suc a) n (drop 3200 p)
+PartsHold K W a (suc n) p = IsPart K a W (take partSize p) × PartsHold K W (suc a) n (drop partSize p)
 
 -- the table of kinds of the n parts that p begins with
 unfoldable pub kindsFor : ℕ → List ℕ → List ℕ
@@ -41,8 +42,8 @@ kindsFor n p = rows n p ++ zeros (192 - 48 * n)
 -- all conditions
 pub record Holds (w : List ℕ) : Type 0 where
   pub head : HeadHolds w
-  pub few : FewAll (getD w 0 0) (drop 256 w)
-  pub parts : PartsHold (kindsFor (getD w 0 0) (drop 256 w)) (getD w 1 0) 0 (getD w 0 0) (drop 256 w)
+  pub few : FewAll (getD w 0 0) (drop headSize w)
+  pub parts : PartsHold (kindsFor (getD w 0 0) (drop headSize w)) (getD w 1 0) 0 (getD w 0 0) (drop headSize w)
 
 -- the words are a state
 pub record AreState (w : List ℕ) : Type 0 where

@@ -20,6 +20,7 @@ use Rattle.atlite.specs.ValidTest.{holdable}
 use Rattle.atlite.specs.Facts.{none-some, and₂, both₂}
 use Rattle.invariant.specs.Growing.{actor-up}
 use Rattle.invariant.specs.Tests.{hold-to, hold-from}
+use Rattle.layout.specs.Numbers.{partSize, headSize, partsSize, tailSize, stateWords, wordSize}
 use Rattle.layout.specs.Pack.{zeros, pad, flat}
 use Rattle.layout.specs.PackLaws.{Each, pad-front, length-zeros, length-flat}
 use Rattle.layout.specs.Layout.{encodeActor, encodeWord, encode}
@@ -58,7 +59,7 @@ module _ (σ : State) (f : Each ActorFits (σ .actors)) (few : length (σ .actor
 pub record Actors (K : List ℕ) (W a n : ℕ) (p : List ℕ) : Type 0 where
   pub list : List Actor
   pub count : length list ≡ n
-  pub words : flat encodeActor list ++ drop (3200 * n) p ≡ p
+  pub words : flat encodeActor list ++ drop (partSize * n) p ≡ p
   pub fit : Each ActorFits list
   pub within : all (withinActor full) list ≡ true
   pub hold : (i : ℕ) (A : Actor) → getElem? list i ≡ some A → IsActor W (λ v. allowed K (a + i) v ≡ true) (futureBy K) (a + i) A
@@ -75,16 +76,16 @@ parts-actors K W a zero p h = record {
 }
 parts-actors K W a (suc n) p h =
     let A = h .0 .0 in
-    let r = parts-actors K W (suc a) n (drop 3200 p) (h .1) in
-    let k : 3200 * suc n ≡ 3200 + 3200 * n = omega arith in
+    let r = parts-actors K W (suc a) n (drop partSize p) (h .1) in
+    let k : partSize * suc n ≡ partSize + partSize * n = omega arith in
     record {
       list = A ∷ r .list;
       count = ap suc (r .count);
       words =
-          append-assoc (encodeActor A) (flat encodeActor (r .list)) (drop (3200 * suc n) p)
-          ∙ ap₂ (λ x y. x ++ (flat encodeActor (r .list) ++ y)) (h .0 .1) (ap (λ i. drop i p) k ∙ sym (drop-drop (3200 * n) 3200 p))
-          ∙ ap (λ l. take 3200 p ++ l) (r .words)
-          ∙ take-append-drop 3200 p;
+          append-assoc (encodeActor A) (flat encodeActor (r .list)) (drop (partSize * suc n) p)
+          ∙ ap₂ (λ x y. x ++ (flat encodeActor (r .list) ++ y)) (h .0 .1) (ap (λ i. drop i p) k ∙ sym (drop-drop (partSize * n) partSize p))
+          ∙ ap (λ l. take partSize p ++ l) (r .words)
+          ∙ take-append-drop partSize p;
       fit = (h .0 .4, r .fit);
       within = both₂ (h .0 .2) (r .within);
       hold = each (r .list) A (r .hold) (h .0 .3);
@@ -110,8 +111,8 @@ actors-parts-hold K W a (A ∷ As) r f w h =
     let l = actor-length A (f .0) in
     let z : a + 0 ≡ a = omega arith in
     let g : IsActor W (λ v. allowed K a v ≡ true) (futureBy K) a A = rw z at (h 0 A refl) in
-    let t : take 3200 ((encodeActor A ++ flat encodeActor As) ++ r) ≡ encodeActor A = rw e (take-at (encodeActor A) (flat encodeActor As ++ r) 3200 l) in
-    let d : drop 3200 ((encodeActor A ++ flat encodeActor As) ++ r) ≡ flat encodeActor As ++ r = rw e (drop-at (encodeActor A) (flat encodeActor As ++ r) 3200 l) in (
+    let t : take partSize ((encodeActor A ++ flat encodeActor As) ++ r) ≡ encodeActor A = rw e (take-at (encodeActor A) (flat encodeActor As ++ r) partSize l) in
+    let d : drop partSize ((encodeActor A ++ flat encodeActor As) ++ r) ≡ flat encodeActor As ++ r = rw e (drop-at (encodeActor A) (flat encodeActor As ++ r) partSize l) in (
       (A, sym t, q .0, g, f .0),
       transp (λ p. PartsHold K W (suc a) (length As) p) (sym d)
           (actors-parts-hold K W (suc a) As r (f .1) (q .1) (λ i B k. let y : a + suc i ≡ suc a + i = omega arith in rw y at (h (suc i) B k))),
@@ -130,7 +131,7 @@ module _ (w : List ℕ) (u : Words w) (h : HeadHolds w) where
   abbrev front : List ℕ
   front = getD w 0 0 ∷ getD w 1 0 ∷ flat encodeWord dictionary
 
-  front-length : length front ≡ 2 + 3 * getD w 1 0
+  front-length : length front ≡ 2 + wordSize * getD w 1 0
   front-length =
       omega (arith, length-flat encodeWord 3 dictionary (words-three dictionary), length-entries w (getD w 1 0) 2)
 
@@ -139,48 +140,48 @@ module _ (w : List ℕ) (u : Words w) (h : HeadHolds w) where
       let l = u .count in
       drop-cons w 0 0 (omega arith) ∙ ap {B = List ℕ} (λ r. getD w 0 0 ∷ r) (drop-cons w 1 0 (omega arith))
 
-  head-is : w ≡ pad 256 front ++ drop 256 w
+  head-is : w ≡ pad headSize front ++ drop headSize w
   head-is =
       let l = u .count in
       let m = h .words in
-      let a : drop 2 w ≡ flat encodeWord dictionary ++ (zeros (256 - length front) ++ drop 256 w) =
+      let a : drop 2 w ≡ flat encodeWord dictionary ++ (zeros (headSize - length front) ++ drop headSize w) =
       sym (entries-encoded w (u .small) (getD w 1 0) 2 (omega arith))
       ∙ ap (λ r. flat encodeWord dictionary ++ r)
-      (split-at w (2 + 3 * getD w 1 0) 256 (omega arith)
-      ∙ ap (λ r. r ++ drop 256 w) (h .spare ∙ ap (λ i. zeros (256 - i)) (sym front-length))) in
-      two-first ∙ ap {B = List ℕ} (λ r. getD w 0 0 ∷ getD w 1 0 ∷ r) a ∙ sym (pad-front 256 front (drop 256 w))
+      (split-at w (2 + wordSize * getD w 1 0) headSize (omega arith)
+      ∙ ap (λ r. r ++ drop headSize w) (h .spare ∙ ap (λ i. zeros (headSize - i)) (sym front-length))) in
+      two-first ∙ ap {B = List ℕ} (λ r. getD w 0 0 ∷ getD w 1 0 ∷ r) a ∙ sym (pad-front headSize front (drop headSize w))
 
-  module _ (K : List ℕ) (A : Actors K (getD w 1 0) 0 (getD w 0 0) (drop 256 w)) where
+  module _ (K : List ℕ) (A : Actors K (getD w 1 0) 0 (getD w 0 0) (drop headSize w)) where
     abbrev found : State
     found = record { words = dictionary; actors = A .list }
 
-    rest-is : drop (3200 * getD w 0 0) (drop 256 w) ≡ zeros (16384 - (256 + 3200 * getD w 0 0))
-    rest-is = drop-drop (3200 * getD w 0 0) 256 w ∙ h .rest
+    rest-is : drop (partSize * getD w 0 0) (drop headSize w) ≡ zeros (stateWords - (headSize + partSize * getD w 0 0))
+    rest-is = drop-drop (partSize * getD w 0 0) 256 w ∙ h .rest
 
-    flat-length : length (flat encodeActor (A .list)) ≡ 3200 * getD w 0 0
-    flat-length = omega (arith, length-flat encodeActor 3200 (A .list) (actors-parts (A .list) (A .fit)), A .count)
+    flat-length : length (flat encodeActor (A .list)) ≡ partSize * getD w 0 0
+    flat-length = omega (arith, length-flat encodeActor partSize (A .list) (actors-parts (A .list) (A .fit)), A .count)
 
-    tail-is : pad 12800 (flat encodeActor (A .list)) ++ zeros 3328 ≡ drop 256 w
+    tail-is : pad partsSize (flat encodeActor (A .list)) ++ zeros tailSize ≡ drop headSize w
     tail-is =
         let e = flat-length in
         let m = h .actors in
-        let k : 16384 - (256 + 3200 * getD w 0 0) ≡ (12800 - length (flat encodeActor (A .list))) + 3328 = omega arith in
-        pad-front 12800 (flat encodeActor (A .list)) (zeros 3328)
-        ∙ ap (λ r. flat encodeActor (A .list) ++ r) (sym (zeros-split (12800 - length (flat encodeActor (A .list))) 3328) ∙ ap zeros (sym k) ∙ sym rest-is)
+        let k : stateWords - (headSize + partSize * getD w 0 0) ≡ (partsSize - length (flat encodeActor (A .list))) + tailSize = omega arith in
+        pad-front partsSize (flat encodeActor (A .list)) (zeros tailSize)
+        ∙ ap (λ r. flat encodeActor (A .list) ++ r) (sym (zeros-split (partsSize - length (flat encodeActor (A .list))) tailSize) ∙ ap zeros (sym k) ∙ sym rest-is)
         ∙ A .words
 
     encoded : encode found ≡ w
     unfolding encode
     encoded = rw (A .count, length-entries w (getD w 1 0) 2, tail-is) (sym head-is)
 
-    valid : K ≡ kindsFor (getD w 0 0) (drop 256 w) → IsState found
+    valid : K ≡ kindsFor (getD w 0 0) (drop headSize w) → IsState found
     unfolding entriesHold withinLimits kindsFor
     valid is =
         let n = A .count in
         let m = length-entries w (getD w 1 0) 2 in
         let few : length (A .list) ≤ 4 = omega (arith, h .actors) in
-        let r : rows (getD w 0 0) (drop 256 w) ≡ flat rowOf (A .list) =
-        ap₂ rows (sym n) (sym (A .words)) ∙ parts-rows (A .list) (drop (3200 * getD w 0 0) (drop 256 w)) (A .fit) in
+        let r : rows (getD w 0 0) (drop headSize w) ≡ flat rowOf (A .list) =
+        ap₂ rows (sym n) (sym (A .words)) ∙ parts-rows (A .list) (drop (partSize * getD w 0 0) (drop headSize w)) (A .fit) in
         let q : K ≡ flat rowOf (A .list) ++ zeros (192 - 48 * getD w 0 0) = is ∙ ap (λ l. l ++ zeros (192 - 48 * getD w 0 0)) r in
         record {
           few = omega (arith, h .words);
@@ -195,8 +196,8 @@ module _ (w : List ℕ) (u : Words w) (h : HeadHolds w) where
 
 pub holds-state : (w : List ℕ) → Words w → Holds w → AreState w
 holds-state w u h =
-    let K = kindsFor (getD w 0 0) (drop 256 w) in
-    let A = parts-actors K (getD w 1 0) 0 (getD w 0 0) (drop 256 w) (h .parts) in
+    let K = kindsFor (getD w 0 0) (drop headSize w) in
+    let A = parts-actors K (getD w 1 0) 0 (getD w 0 0) (drop headSize w) (h .parts) in
     record { state = found w u (h .head) K A; valid = valid w u (h .head) K A refl; encoded = encoded w u (h .head) K A }
 
 -- ---- from the state to the conditions
@@ -210,36 +211,36 @@ module _ (σ : State) (s : IsState σ) (w : List ℕ) (is : w ≡ encode σ) whe
   n1 : getD w 1 0 ≡ length (σ .words)
   n1 = count1 σ fits w is
 
-  top-length : length (topWords σ fits) ≡ 2 + 3 * getD w 1 0
+  top-length : length (topWords σ fits) ≡ 2 + wordSize * getD w 1 0
   top-length = omega (arith, length-flat encodeWord 3 (σ .words) (words-three (σ .words)), n1)
 
-  flat-words : length (flat encodeActor (σ .actors)) ≡ 3200 * getD w 0 0
-  flat-words = omega (arith, length-flat encodeActor 3200 (σ .actors) (actors-parts (σ .actors) (fits .actorsFit)), n0)
+  flat-words : length (flat encodeActor (σ .actors)) ≡ partSize * getD w 0 0
+  flat-words = omega (arith, length-flat encodeActor partSize (σ .actors) (actors-parts (σ .actors) (fits .actorsFit)), n0)
 
   abbrev behind : List ℕ
-  behind = zeros (12800 - length (flat encodeActor (σ .actors))) ++ zeros 3328
+  behind = zeros (partsSize - length (flat encodeActor (σ .actors))) ++ zeros tailSize
 
-  spare-is : take (256 - (2 + 3 * getD w 1 0)) (drop (2 + 3 * getD w 1 0) w) ≡ zeros (256 - (2 + 3 * getD w 1 0))
+  spare-is : take (headSize - (2 + wordSize * getD w 1 0)) (drop (2 + wordSize * getD w 1 0) w) ≡ zeros (headSize - (2 + wordSize * getD w 1 0))
   unfolding encode
   spare-is =
-      let r = pad 12800 (flat encodeActor (σ .actors)) ++ zeros 3328 in
-      let z = zeros (256 - length (topWords σ fits)) in
-      let k : length z ≡ 256 - (2 + 3 * getD w 1 0) = length-zeros _ ∙ ap (λ i. 256 - i) top-length in
-      ap (λ l. take (256 - (2 + 3 * getD w 1 0)) (drop (2 + 3 * getD w 1 0) l)) (is ∙ pad-front 256 (topWords σ fits) r)
-      ∙ ap (take (256 - (2 + 3 * getD w 1 0))) (drop-at (topWords σ fits) (z ++ r) (2 + 3 * getD w 1 0) top-length)
-      ∙ take-at z r (256 - (2 + 3 * getD w 1 0)) k
-      ∙ ap (λ i. zeros (256 - i)) top-length
+      let r = pad partsSize (flat encodeActor (σ .actors)) ++ zeros tailSize in
+      let z = zeros (headSize - length (topWords σ fits)) in
+      let k : length z ≡ headSize - (2 + wordSize * getD w 1 0) = length-zeros _ ∙ ap (λ i. headSize - i) top-length in
+      ap (λ l. take (headSize - (2 + wordSize * getD w 1 0)) (drop (2 + wordSize * getD w 1 0) l)) (is ∙ pad-front headSize (topWords σ fits) r)
+      ∙ ap (take (headSize - (2 + wordSize * getD w 1 0))) (drop-at (topWords σ fits) (z ++ r) (2 + wordSize * getD w 1 0) top-length)
+      ∙ take-at z r (headSize - (2 + wordSize * getD w 1 0)) k
+      ∙ ap (λ i. zeros (headSize - i)) top-length
 
-  behind-is : drop (256 + 3200 * getD w 0 0) w ≡ zeros (16384 - (256 + 3200 * getD w 0 0))
+  behind-is : drop (headSize + partSize * getD w 0 0) w ≡ zeros (stateWords - (headSize + partSize * getD w 0 0))
   behind-is =
       let e = flat-words in
       let m = fits .actorCount in
       let c = n0 in
-      let k : (12800 - length (flat encodeActor (σ .actors))) + 3328 ≡ 16384 - (256 + 3200 * getD w 0 0) = omega arith in
-      sym (drop-drop (3200 * getD w 0 0) 256 w)
-      ∙ ap (drop (3200 * getD w 0 0)) (actors-at σ fits w is)
-      ∙ drop-at (flat encodeActor (σ .actors)) behind (3200 * getD w 0 0) flat-words
-      ∙ sym (zeros-split (12800 - length (flat encodeActor (σ .actors))) 3328)
+      let k : (partsSize - length (flat encodeActor (σ .actors))) + tailSize ≡ stateWords - (headSize + partSize * getD w 0 0) = omega arith in
+      sym (drop-drop (partSize * getD w 0 0) 256 w)
+      ∙ ap (drop (partSize * getD w 0 0)) (actors-at σ fits w is)
+      ∙ drop-at (flat encodeActor (σ .actors)) behind (partSize * getD w 0 0) flat-words
+      ∙ sym (zeros-split (partsSize - length (flat encodeActor (σ .actors))) tailSize)
       ∙ ap zeros k
 
   head-holds : HeadHolds w
@@ -254,7 +255,7 @@ module _ (σ : State) (s : IsState σ) (w : List ℕ) (is : w ≡ encode σ) whe
   }
 
   abbrev table : List ℕ
-  table = kindsFor (getD w 0 0) (drop 256 w)
+  table = kindsFor (getD w 0 0) (drop headSize w)
 
   table-is : table ≡ flat rowOf (σ .actors) ++ zeros (192 - 48 * getD w 0 0)
   unfolding kindsFor
@@ -262,7 +263,7 @@ module _ (σ : State) (s : IsState σ) (w : List ℕ) (is : w ≡ encode σ) whe
       ap (λ l. l ++ zeros (192 - 48 * getD w 0 0))
       (ap₂ rows n0 (actors-at σ fits w is) ∙ parts-rows (σ .actors) behind (fits .actorsFit))
 
-  parts-hold : PartsHold table (getD w 1 0) 0 (getD w 0 0) (drop 256 w)
+  parts-hold : PartsHold table (getD w 1 0) 0 (getD w 0 0) (drop headSize w)
   unfolding withinLimits
   parts-hold =
       let l = and₂ (leb (length (σ .actors)) 4) (all (withinActor full) (σ .actors)) (s .limits) in
@@ -273,7 +274,7 @@ module _ (σ : State) (s : IsState σ) (w : List ℕ) (is : w ≡ encode σ) whe
       (transp (λ n. PartsHold table (getD w 1 0) 0 n (flat encodeActor (σ .actors) ++ behind)) (sym n0)
       (transp (λ n. PartsHold table n 0 (length (σ .actors)) (flat encodeActor (σ .actors) ++ behind)) (sym n1) h))
 
-  few-hold : FewAll (getD w 0 0) (drop 256 w)
+  few-hold : FewAll (getD w 0 0) (drop headSize w)
   few-hold =
       transp (λ p. FewAll (getD w 0 0) p) (sym (actors-at σ fits w is))
       (transp (λ n. FewAll n (flat encodeActor (σ .actors) ++ behind)) (sym n0) (parts-few (σ .actors) behind (fits .actorsFit)))

@@ -12,8 +12,8 @@ use lib.ListN.{length, take, drop, getD, length-take, length-drop}
 use lib.Seq.{drop-drop, take-all, length-take-le}
 use Rattle.atlite.specs.Base.{orRefuse, isDone}
 use Rattle.atlite.specs.State.{State}
+use Rattle.layout.specs.Numbers.{partSize, headSize, stateWords}
 use Rattle.layout.specs.Pack.{zeros}
-use Rattle.layout.specs.Layout.{stateWords}
 use Rattle.layout.specs.Decode.{stateOf}
 use Rattle.layout.specs.Laws.{state-of-iff, state-length}
 use Rattle.layout.specs.Meaning.{stateIn}
@@ -29,7 +29,7 @@ denied : {P : Type 0} → (P → ⊥) → Decides P false
 unfolding Decides
 denied n = (λ e. absurd (false≢true e), λ p. absurd (n p))
 
-module _ (w : List ℕ) (l : length w ≡ 16384) (n k : ℕ) (p : n ≡ getD w 0 0) (q : k ≡ getD w 1 0) where
+module _ (w : List ℕ) (l : length w ≡ stateWords) (n k : ℕ) (p : n ≡ getD w 0 0) (q : k ≡ getD w 1 0) where
   pub no-actor : n ≡ 0 → Decides (HeadHolds w) false
   no-actor e = denied (λ h. omega (arith, h .started))
 
@@ -40,25 +40,25 @@ module _ (w : List ℕ) (l : length w ≡ 16384) (n k : ℕ) (p : n ≡ getD w 0
   many-words e = denied (λ h. omega (arith, h .words))
 
   module _ (s : n ≡ 0 → ⊥) (m : n ≤ 4) (j : k ≤ 64) where
-    module _ (r : Bool) (t : Same (take (length w - (256 + 3200 * n)) (drop (256 + 3200 * n) w)) (zeros (length (take (length w - (256 + 3200 * n)) (drop (256 + 3200 * n) w)))) r) where
-      rest-whole : take (length w - (256 + 3200 * n)) (drop (256 + 3200 * n) w) ≡ drop (256 + 3200 * n) w
-      rest-whole = take-all (length w - (256 + 3200 * n)) (drop (256 + 3200 * n) w) (omega (arith, length-drop (256 + 3200 * n) w))
+    module _ (r : Bool) (t : Same (take (length w - (headSize + partSize * n)) (drop (headSize + partSize * n) w)) (zeros (length (take (length w - (headSize + partSize * n)) (drop (headSize + partSize * n) w)))) r) where
+      rest-whole : take (length w - (headSize + partSize * n)) (drop (headSize + partSize * n) w) ≡ drop (headSize + partSize * n) w
+      rest-whole = take-all (length w - (headSize + partSize * n)) (drop (headSize + partSize * n) w) (omega (arith, length-drop (headSize + partSize * n) w))
 
-      rest-length : length (drop (256 + 3200 * n) w) ≡ 16384 - (256 + 3200 * n)
-      rest-length = omega (arith, length-drop (256 + 3200 * n) w)
+      rest-length : length (drop (headSize + partSize * n) w) ≡ stateWords - (headSize + partSize * n)
+      rest-length = omega (arith, length-drop (headSize + partSize * n) w)
 
-      rest-same : Same (drop (256 + 3200 * n) w) (zeros (16384 - (256 + 3200 * n))) r
+      rest-same : Same (drop (headSize + partSize * n) w) (zeros (stateWords - (headSize + partSize * n))) r
       rest-same = rw (← rest-length) (rw rest-whole at t)
 
       pub rest-not : r ≡ false → Decides (HeadHolds w) false
       rest-not e = denied (λ h. false≢true (sym e ∙ rest-same .complete (rw p (h .rest))))
 
-      module _ (d : Bool) (u : Same (take (256 - (2 + 3 * k)) (drop (2 + 3 * k) w)) (zeros (length (take (256 - (2 + 3 * k)) (drop (2 + 3 * k) w)))) d) where
-        spare-length : length (take (256 - (2 + 3 * k)) (drop (2 + 3 * k) w)) ≡ 256 - (2 + 3 * k)
-        spare-length = length-take-le (256 - (2 + 3 * k)) (drop (2 + 3 * k) w) (omega (arith, length-drop (2 + 3 * k) w))
+      module _ (d : Bool) (u : Same (take (headSize - (2 + 3 * k)) (drop (2 + 3 * k) w)) (zeros (length (take (headSize - (2 + 3 * k)) (drop (2 + 3 * k) w)))) d) where
+        spare-length : length (take (headSize - (2 + 3 * k)) (drop (2 + 3 * k) w)) ≡ headSize - (2 + 3 * k)
+        spare-length = length-take-le (headSize - (2 + 3 * k)) (drop (2 + 3 * k) w) (omega (arith, length-drop (2 + 3 * k) w))
 
-        spare-same : Same (take (256 - (2 + 3 * k)) (drop (2 + 3 * k) w)) (zeros (256 - (2 + 3 * k))) d
-        spare-same = transp (λ i. Same (take (256 - (2 + 3 * k)) (drop (2 + 3 * k) w)) (zeros i) d) spare-length u
+        spare-same : Same (take (headSize - (2 + 3 * k)) (drop (2 + 3 * k) w)) (zeros (headSize - (2 + 3 * k))) d
+        spare-same = transp (λ i. Same (take (headSize - (2 + 3 * k)) (drop (2 + 3 * k) w)) (zeros i) d) spare-length u
 
         pub spare-not : d ≡ false → Decides (HeadHolds w) false
         spare-not e = denied (λ h. false≢true (sym e ∙ spare-same .complete (rw q (h .spare))))
@@ -78,36 +78,36 @@ module _ (w : List ℕ) (l : length w ≡ 16384) (n k : ℕ) (p : n ≡ getD w 0
         )
 
 -- ---- the parts
-part : (w : List ℕ) (at : ℕ) → take (at + 3200 - at) (drop at w) ≡ take 3200 (drop at w)
-part w at = let e : at + 3200 - at ≡ 3200 = omega arith in rw e
+part : (w : List ℕ) (at : ℕ) → take (at + partSize - at) (drop at w) ≡ take partSize (drop at w)
+part w at = let e : at + partSize - at ≡ partSize = omega arith in rw e
 
 module _ (K : List ℕ) (W a n : ℕ) (w : List ℕ) (at : ℕ) where
   pub parts-none : n ≡ 0 → Decides (PartsHold K W a n (drop at w)) true
   unfolding Decides PartsHold
   parts-none e = rw e ((λ z. tt), (λ h. refl))
 
-  module _ (s : n ≡ 0 → ⊥) (r : Bool) (d : Decides (IsPart K a W (take (at + 3200 - at) (drop at w))) r) where
+  module _ (s : n ≡ 0 → ⊥) (r : Bool) (d : Decides (IsPart K a W (take (at + partSize - at) (drop at w))) r) where
     positive : n ≡ suc (n - 1)
     positive = omega arith
 
-    first-part : PartsHold K W a n (drop at w) → IsPart K a W (take (at + 3200 - at) (drop at w)) × PartsHold K W (a + 1) (n - 1) (drop (at + 3200) w)
+    first-part : PartsHold K W a n (drop at w) → IsPart K a W (take (at + partSize - at) (drop at w)) × PartsHold K W (a + 1) (n - 1) (drop (at + partSize) w)
     unfolding PartsHold
     first-part h =
         let g = transp (λ m. PartsHold K W a m (drop at w)) positive h in
         let e : a + 1 ≡ suc a = omega arith in
-        (rw (part w at) (g .0), rw (e, ← drop-drop 3200 at w) (g .1))
+        (rw (part w at) (g .0), rw (e, ← drop-drop partSize at w) (g .1))
 
-    both-parts : IsPart K a W (take (at + 3200 - at) (drop at w)) → PartsHold K W (a + 1) (n - 1) (drop (at + 3200) w) → PartsHold K W a n (drop at w)
+    both-parts : IsPart K a W (take (at + partSize - at) (drop at w)) → PartsHold K W (a + 1) (n - 1) (drop (at + partSize) w) → PartsHold K W a n (drop at w)
     unfolding PartsHold
     both-parts g h =
         let e : a + 1 ≡ suc a = omega arith in
-        transp (λ m. PartsHold K W a m (drop at w)) (sym positive) (rw (part w at) at g, rw (drop-drop 3200 at w, ← e) h)
+        transp (λ m. PartsHold K W a m (drop at w)) (sym positive) (rw (part w at) at g, rw (drop-drop partSize at w, ← e) h)
 
     pub parts-not : r ≡ false → Decides (PartsHold K W a n (drop at w)) false
     unfolding Decides
     parts-not e = denied (λ h. false≢true (sym e ∙ d .1 (first-part h .0)))
 
-    pub parts-more : r ≡ true → (b : Bool) → Decides (PartsHold K W (a + 1) (n - 1) (drop (at + 3200) w)) b → Decides (PartsHold K W a n (drop at w)) b
+    pub parts-more : r ≡ true → (b : Bool) → Decides (PartsHold K W (a + 1) (n - 1) (drop (at + partSize) w)) b → Decides (PartsHold K W a n (drop at w)) b
     unfolding Decides
     parts-more e b g = ((λ z. both-parts (d .0 e) (g .0 z)), (λ h. g .1 (first-part h .1)))
 
@@ -120,14 +120,14 @@ pub head-holds : (w : List ℕ) (r : Bool) → Decides (HeadHolds w) r → r ≡
 unfolding Decides
 head-holds w r d e = d .0 e
 
-module _ (w : List ℕ) (l : length w ≡ 16384) (h : HeadHolds w) (n : ℕ) (p : n ≡ getD w 0 0) (K : List ℕ) (r : Bool) (t : Tabled w n K r) where
+module _ (w : List ℕ) (l : length w ≡ stateWords) (h : HeadHolds w) (n : ℕ) (p : n ≡ getD w 0 0) (K : List ℕ) (r : Bool) (t : Tabled w n K r) where
   pub table-not : r ≡ false → Decides (AreState w) false
   table-not e = denied (λ a. false≢true (sym e ∙ t .complete (rw p (state-holds w a .few))))
 
-  pub parts-told : r ≡ true → ((i : ℕ) → Fits w32 (getD w i 0)) → (b : Bool) → Decides (PartsHold K (getD w 1 0) 0 n (drop 256 w)) b → Decides (AreState w) b
+  pub parts-told : r ≡ true → ((i : ℕ) → Fits w32 (getD w i 0)) → (b : Bool) → Decides (PartsHold K (getD w 1 0) 0 n (drop headSize w)) b → Decides (AreState w) b
   unfolding Decides kindsFor
   parts-told e f b d =
-      let k : K ≡ kindsFor (getD w 0 0) (drop 256 w) = t .is e ∙ rw p in (
+      let k : K ≡ kindsFor (getD w 0 0) (drop headSize w) = t .is e ∙ rw p in (
         (λ z. holds-state w (record { count = l; small = f }) (record {
           head = h;
           few = rw (← p) (t .sound e);
@@ -149,7 +149,7 @@ module _ (w : List ℕ) where
       go none e = refl
       go (some σ) e = absurd (n (are-state σ e))
 
-  pub words-short : length w < 16384 → false ≡ isDone (stateIn w)
+  pub words-short : length w < stateWords → false ≡ isDone (stateIn w)
   words-short h = no-state-in (λ a. omega (arith, ap length (a .encoded), state-length (a .state) (a .valid), length-take stateWords w))
 
   pub state-told : (r : Bool) → Decides (AreState (take stateWords w)) r → r ≡ isDone (stateIn w)

@@ -8,11 +8,15 @@ ghost use Prim.Native.Nat.{_+_, _*_, _≤_};
 ghost use lib.ListN.{length, drop};
 ghost use Rattle.atlite.specs.Base.{isDone};
 ghost use Rattle.atlite.specs.Answers.{listAnswer};
+ghost use Rattle.layout.specs.Numbers.{partSize, stateWords};
 ghost use Rattle.layout.specs.Meaning.{stateIn, listCall};
 ghost use Rattle.actor.specs.Judges.{Decides};
 ghost use Rattle.state.specs.Conditions.{HeadHolds, PartsHold, AreState};
 ghost use Rattle.state.specs.Calls.{Measures, ListsCall};
 use atlite::Listed;
+use layout::HEAD;
+use layout::PART;
+use layout::STATE;
 
 fn wide(n: u32) -> usize
     ensures { λ r. ⌜ r ≡ n ⌝ }
@@ -22,7 +26,7 @@ fn wide(n: u32) -> usize
 
 // Whether the counts are within their limits, the dictionary is one, and only zeros stand behind what is used.
 fn is_head(w: &[u32]) -> bool
-    requires { ⌜ length (now w) ≡ 16384 ⌝ }
+    requires { ⌜ length (now w) ≡ stateWords ⌝ }
     ensures { λ r. ⌜ Decides (HeadHolds (now (w .entry))) r ⌝ }
 {
     let n = wide(w[0]);
@@ -37,7 +41,7 @@ fn is_head(w: &[u32]) -> bool
         return false;
     }
     let spare = 2 + 3 * k;
-    let rest = 256 + 3200 * n;
+    let rest = HEAD + PART * n;
     if words::all_zero(&w[rest..]) {
         if words::all_zero(&w[spare..256]) {
             return dictionary::is_dictionary(w, 2, k);
@@ -48,13 +52,13 @@ fn is_head(w: &[u32]) -> bool
 
 // Whether the `left` parts at `at` are those of the actors from `a` on, in a state with `k` words.
 fn are_parts(w: &[u32], at: usize, a: u32, left: usize, k: u32, kinds: &[u8; 192]) -> bool
-    requires { ⌜ (at + 3200 * left ≤ length (now w)) × (a + left ≤ 4) × (k ≤ 64) ⌝ }
+    requires { ⌜ (at + partSize * left ≤ length (now w)) × (a + left ≤ 4) × (k ≤ 64) ⌝ }
     ensures { λ r. ⌜ Decides (PartsHold (now (kinds .entry)) k a left (drop at (now (w .entry)))) r ⌝ }
 {
     if left == 0 {
         return true;
     }
-    let end = at + 3200;
+    let end = at + PART;
     if actor::is_actor(&w[at..end], a, k, kinds) {
         return are_parts(w, end, a + 1, left - 1, k, kinds);
     }
@@ -63,21 +67,21 @@ fn are_parts(w: &[u32], at: usize, a: u32, left: usize, k: u32, kinds: &[u8; 192
 
 // Whether words with such a head are a state.
 fn are_actors(w: &[u32]) -> bool
-    requires { ⌜ (length (now w) ≡ 16384) × HeadHolds (now w) ⌝ }
+    requires { ⌜ (length (now w) ≡ stateWords) × HeadHolds (now w) ⌝ }
     ensures { λ r. ⌜ Decides (AreState (now (w .entry))) r ⌝ }
 {
     let n = wide(w[0]);
     let k = w[1];
     let mut kinds = [0u8; 192];
     if kinds::fill_kinds(w, n, &mut kinds) {
-        return are_parts(w, 256, 0, n, k, &kinds);
+        return are_parts(w, HEAD, 0, n, k, &kinds);
     }
     false
 }
 
 // Whether 16,384 words are a state.
 fn are_state(w: &[u32]) -> bool
-    requires { ⌜ length (now w) ≡ 16384 ⌝ }
+    requires { ⌜ length (now w) ≡ stateWords ⌝ }
     ensures { λ r. ⌜ Decides (AreState (now (w .entry))) r ⌝ }
 {
     if is_head(w) {
@@ -94,7 +98,7 @@ fn are_state(w: &[u32]) -> bool
 pub fn is_state(words: &[u32]) -> bool
     ensures { λ r. ⌜ r ≡ isDone (stateIn (now (words .entry))) ⌝ }
 {
-    if words.len() < 16384 {
+    if words.len() < STATE {
         return false;
     }
     are_state(&words[..16384])
@@ -102,7 +106,7 @@ pub fn is_state(words: &[u32]) -> bool
 
 // The length of a state's listing, which is listed into no text.
 fn measure(state: &[u32]) -> usize
-    requires { ⌜ 16384 ≤ length (now state) ⌝ }
+    requires { ⌜ stateWords ≤ length (now state) ⌝ }
     ensures { λ r. ⌜ Measures (now (state .entry)) r ⌝ }
 {
     let mut none = [0u8; 0];
@@ -111,7 +115,7 @@ fn measure(state: &[u32]) -> usize
 
 // Lists a state. Its length is asked first, since a refusal writes nothing.
 fn list_state(state: &[u32], text: &mut [u8]) -> Listed
-    requires { ⌜ (16384 ≤ length (now state)) × (isDone (stateIn (now state)) ≡ true) ⌝ }
+    requires { ⌜ (stateWords ≤ length (now state)) × (isDone (stateIn (now state)) ≡ true) ⌝ }
     ensures { λ r. ⌜ ListsCall (now (state .entry)) (now (text .entry)) r (now (text .exit)) ⌝ }
 {
     if text.len() < measure(state) {
@@ -125,7 +129,7 @@ fn list_state(state: &[u32], text: &mut [u8]) -> Listed
 fn list_text(state: &[u32], text: &mut [u8]) -> Listed
     ensures { λ r. ⌜ ListsCall (now (state .entry)) (now (text .entry)) r (now (text .exit)) ⌝ }
 {
-    if state.len() < 16384 {
+    if state.len() < STATE {
         return Listed::Refused(6);
     }
     if is_state(state) {

@@ -12,6 +12,7 @@ use Rattle.atlite.specs.Base.{member}
 use Rattle.atlite.specs.Term.{this, Value, Kind, Inits, noField, Methods, noMethod, method, methodNames, seen}
 use Rattle.atlite.specs.Valid.{isName, isVariable, namesWithin, parameters}
 use Rattle.atlite.specs.ValidTest.{held, wellFormed, wellFormedAll, wellFormedMethods}
+use Rattle.layout.specs.Numbers.{payload, nameLimit, noName, tagLimit, thirdPlace, pairLimit}
 use Rattle.layout.specs.Pack.{names}
 use Rattle.layout.specs.PackLaws.{Each}
 use Rattle.layout.specs.Terms.{kindNumber}
@@ -32,33 +33,33 @@ methodsHold c p ms = namesWithin 4 c (methodNames ms) && wellFormedMethods c p (
 -- A list has for each word the level at which it is bound, the level being one more in each literal that hides what is around it: the
 -- words in xs are those at the level g. The last place is no word's.
 pub record Scope (F : List ℕ) (g : ℕ) (xs : List ℕ) : Type 0 where
-  pub size : length F ≡ 128
+  pub size : length F ≡ nameLimit
   pub low : (x : ℕ) → getD F x 0 ≤ g
-  pub right : (x : ℕ) → x < 127 → eqb (getD F x 0) g ≡ member x xs
+  pub right : (x : ℕ) → x < noName → eqb (getD F x 0) g ≡ member x xs
 
 unfoldable pub Sees : List ℕ → ℕ → ℕ → Bool → Type 0
-Sees F g x r = (xs : List ℕ) → Scope F g xs → r ≡ ltb x 127 && member x xs
+Sees F g x r = (xs : List ℕ) → Scope F g xs → r ≡ ltb x noName && member x xs
 
 -- three names in seven bits each are bound
 unfoldable pub bound : List ℕ → ℕ → ℕ → List ℕ
-bound F g n = set (set (set F (n / 16384 % 128) g) (n / 128 % 128) g) (n % 128) g
+bound F g n = set (set (set F (n / pairLimit % nameLimit) g) (n / nameLimit % nameLimit) g) (n % nameLimit) g
 
 pub record Bound (F : List ℕ) (g n : ℕ) (G : List ℕ) (x y z : ℕ) : Type 0 where
   pub new : G ≡ bound F g n
-  pub third : z ≡ getD F (n / 16384 % 128) 0
-  pub second : y ≡ getD (set F (n / 16384 % 128) g) (n / 128 % 128) 0
-  pub first : x ≡ getD (set (set F (n / 16384 % 128) g) (n / 128 % 128) g) (n % 128) 0
+  pub third : z ≡ getD F (n / pairLimit % nameLimit) 0
+  pub second : y ≡ getD (set F (n / pairLimit % nameLimit) g) (n / nameLimit % nameLimit) 0
+  pub first : x ≡ getD (set (set F (n / pairLimit % nameLimit) g) (n / nameLimit % nameLimit) g) (n % nameLimit) 0
 
 pub record Unbound (F : List ℕ) (n : ℕ) (G : List ℕ) (x y z : ℕ) : Type 0 where
-  pub new : G ≡ set (set (set F (n % 128) x) (n / 128 % 128) y) (n / 16384 % 128) z
+  pub new : G ≡ set (set (set F (n % nameLimit) x) (n / nameLimit % nameLimit) y) (n / pairLimit % nameLimit) z
 
 -- the level in the parts of a literal with the word h, and whether they may refer
 pub record Opens (g h r : ℕ) : Type 0 where
   pub near : r ≤ g + 1
-  pub inner : (t : Kind) → h / 16777216 ≡ kindNumber t → (F xs : List ℕ) → Scope F g xs → Scope F r (seen t xs)
+  pub inner : (t : Kind) → h / payload ≡ kindNumber t → (F xs : List ℕ) → Scope F g xs → Scope F r (seen t xs)
 
 unfoldable pub Refers : Bool → ℕ → Bool → Type 0
-Refers refs h r = (t : Kind) → h / 16777216 ≡ kindNumber t → (K : List ℕ) (a : ℕ) → holds r K a ≡ held t (holds refs K a)
+Refers refs h r = (t : Kind) → h / payload ≡ kindNumber t → (K : List ℕ) (a : ℕ) → holds r K a ≡ held t (holds refs K a)
 
 -- ---- headers
 -- a name, before others with the names ns
@@ -69,7 +70,7 @@ fresh c ns x = isName c x && not (member x ns)
 pub record Met (N n : ℕ) (ns : List ℕ) : Type 0 where
   pub is : N ≡ names ns
   pub few : length ns + n ≤ 4
-  pub each : Each (λ x. (0 < x) × (x < 127)) ns
+  pub each : Each (λ x. (0 < x) × (x < noName)) ns
 
 unfoldable pub Fresh : ℕ → ℕ → ℕ → Bool → Type 0
 Fresh c N x r = (n : ℕ) (ns : List ℕ) → 0 < n → Met N n ns → r ≡ fresh c ns x
@@ -85,7 +86,7 @@ unfoldable pub third : ℕ → ℕ → ℕ → ℕ → Bool
 third c x y z = isVariable c z && not (eqb x z) && not (eqb y z)
 
 unfoldable pub empty : ℕ → ℕ → Bool
-empty y z = eqb y 127 && eqb z 127
+empty y z = eqb y noName && eqb z noName
 
 unfoldable pub methodHead : ℕ → List ℕ → ℕ × List ℕ → Bool
 methodHead c ns h = fresh c ns (h .0) && parameters c (h .1)
@@ -95,8 +96,8 @@ MethodHeader c N h r = (n : ℕ) (ns : List ℕ) → 0 < n → Met N n ns → r 
 
 -- how many terms stand behind a call or a send of payload p
 pub record Arguments (p r : ℕ) : Type 0 where
-  pub is : r ≡ 1 + p / 128 / 4
-  pub few : r ≤ 8388608
+  pub is : r ≡ 1 + p / nameLimit / tagLimit
+  pub few : r ≤ thirdPlace
 
 -- ---- fields and methods behind others with the names ns
 unfoldable pub fieldsWell : ℕ → (Value → Bool) → List ℕ → List ℕ → Inits → Bool
@@ -122,7 +123,7 @@ Leaf c p F g h o = (xs : List ℕ) → Scope F g xs → (w : List ℕ) (at : ℕ
 
 -- The word h is that of a binder or a literal, or of no term.
 unfoldable pub Closed : ℕ → ℕ → Type 0
-Closed c h = (h / 16777216 ≡ 11 → ⊥) → (h / 16777216 ≡ 12 → ⊥) → (h / 16777216 ≡ 15 → ⊥) → (h / 16777216 ≡ 16 → ⊥) → (h / 16777216 ≡ 17 → ⊥)
+Closed c h = (h / payload ≡ 11 → ⊥) → (h / payload ≡ 12 → ⊥) → (h / payload ≡ 15 → ⊥) → (h / payload ≡ 16 → ⊥) → (h / payload ≡ 17 → ⊥)
     → (p : Value → Bool) (xs w : List ℕ) (at : ℕ) → 4096 ≡ wordEnd c p xs w h at
 
 -- the kinds that are no operators of the table
@@ -131,7 +132,7 @@ Unlisted k = (rowIn k / 16 ≡ 1 → ⊥) × (rowIn k / 16 ≡ 2 → ⊥)
 
 -- Behind the word h of a term stand r terms in the same scope; 0 says that h is closed.
 pub record Operands (c h r : ℕ) : Type 0 where
-  pub few : r ≤ 8388608
+  pub few : r ≤ thirdPlace
   pub none : r ≡ 0 → Closed c h
   pub some : 0 < r → (p : Value → Bool) (xs w : List ℕ) (at : ℕ) → termsEnd c p xs w r at ≡ wordEnd c p xs w h at
 
@@ -161,5 +162,5 @@ module _ (c : ℕ) (p : Value → Bool) (F : List ℕ) (g : ℕ) (w : List ℕ) 
 
   -- the parts of a literal with the word h
   unfoldable pub LiteralEnds : ℕ → ℕ → ℕ → Type 0
-  LiteralEnds h at r = (t : Kind) → h / 16777216 ≡ kindNumber t → (xs : List ℕ) → Scope F g xs
-      → r ≡ endOf (wellFormed c p xs) (formed (literalHead t (h % 16777216)) (λ i. parse w i) w at)
+  LiteralEnds h at r = (t : Kind) → h / payload ≡ kindNumber t → (xs : List ℕ) → Scope F g xs
+      → r ≡ endOf (wellFormed c p xs) (formed (literalHead t (h % payload)) (λ i. parse w i) w at)

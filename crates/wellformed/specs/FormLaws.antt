@@ -13,6 +13,7 @@ use Rattle.atlite.specs.Facts.{and₂}
 use Rattle.atlite.specs.Term.{Value, Name, plain, twoWay, resolve, register, Kind, Op, call, send, written, var, letIn, future}
 use Rattle.atlite.specs.Valid.{isName, isVariable, sendable, callable, operable}
 use Rattle.atlite.specs.ValidTest.{wellFormed}
+use Rattle.layout.specs.Numbers.{payload, nameLimit, noName, tagLimit, thirdPlace, pairLimit, bodiesSize}
 use Rattle.layout.specs.PackLaws.{pack-low}
 use Rattle.layout.specs.Terms.{kindNumber}
 use Rattle.layout.specs.Kinds.{Kinds, Form, nothing, nullValue, number, reference, variable, bare, onField, calls, sends, formKind, rowOf, rowIn, by-kind as by-form}
@@ -45,11 +46,11 @@ module _ (c : ℕ) where
   few-sent register n l = ne-eqb n 1 (λ e. omega arith)
 
 -- ---- leaves
-value-head : (x : ℕ) → x / 16777216 < 6 → headAt x ≡ valueHead (valueAt x)
+value-head : (x : ℕ) → x / payload < 6 → headAt x ≡ valueHead (valueAt x)
 unfolding headAt Kinds headIn headOf valueAt valueIn
-value-head x h = go (x / 16777216) h
+value-head x h = go (x / payload) h
   where
-    go : (k : ℕ) → k < 6 → headIn k (x % 16777216) ≡ valueHead (valueIn k (x % 16777216))
+    go : (k : ℕ) → k < 6 → headIn k (x % payload) ≡ valueHead (valueIn k (x % payload))
     go zero h = refl
     go (suc zero) h = refl
     go (suc (suc zero)) h = refl
@@ -59,13 +60,13 @@ value-head x h = go (x / 16777216) h
     go (suc (suc (suc (suc (suc (suc k)))))) h = absurd (omega arith)
 
 module _ (c : ℕ) (p : Value → Bool) (F : List ℕ) (g h : ℕ) (o : Bool) where
-  pub leaf-variable : h / 16777216 ≡ 6 → Sees F g (h % 16777216) o → Leaf c p F g h o
+  pub leaf-variable : h / payload ≡ 6 → Sees F g (h % payload) o → Leaf c p F g h o
   unfolding Leaf Sees Kinds headIn headOf wellFormed
-  leaf-variable k e xs s w at = by-kind c p xs w h at 6 _ k (leaf-ends c p xs w at o (ltb (h % 16777216) 127) (var (h % 16777216)) (e xs s))
+  leaf-variable k e xs s w at = by-kind c p xs w h at 6 _ k (leaf-ends c p xs w at o (ltb (h % payload) noName) (var (h % payload)) (e xs s))
 
-  pub leaf-value : h < 117440512 → (h / 16777216 ≡ 6 → ⊥) → o ≡ within p (valueAt h) → Leaf c p F g h o
+  pub leaf-value : h < 7 * payload → (h / payload ≡ 6 → ⊥) → o ≡ within p (valueAt h) → Leaf c p F g h o
   unfolding Leaf formed endOf within wellFormed
-  leaf-value l k e xs s w at = let j : h / 16777216 < 6 = omega arith in rw (value-head h j, e) (go (valueAt h))
+  leaf-value l k e xs s w at = let j : h / payload < 6 = omega arith in rw (value-head h j, e) (go (valueAt h))
     where
       go : (x : Option Value) → cond (within p x) at 4096 ≡ endOf (wellFormed c p xs) (formed (valueHead x) (λ i. parse w i) w at)
       go Option.none = refl
@@ -74,14 +75,14 @@ module _ (c : ℕ) (p : Value → Bool) (F : List ℕ) (g h : ℕ) (o : Bool) wh
 pub ruleset leaf-laws = (needs, leaf-variable, leaf-value)
 
 -- ---- operators
-module _ (c h r n : ℕ) (o : Bool) (t : Counted o n r) (k : ℕ) (e : h / 16777216 ≡ k) where
-  operands-by : 0 < n → n ≤ 8388608 → (o ≡ false → (p : Value → Bool) (xs w : List ℕ) (at : ℕ) → 4096 ≡ formEnd c p xs w at (headIn k (h % 16777216)))
-      → (o ≡ true → (p : Value → Bool) (xs w : List ℕ) (at : ℕ) → termsEnd c p xs w n at ≡ formEnd c p xs w at (headIn k (h % 16777216))) → Operands c h r
+module _ (c h r n : ℕ) (o : Bool) (t : Counted o n r) (k : ℕ) (e : h / payload ≡ k) where
+  operands-by : 0 < n → n ≤ thirdPlace → (o ≡ false → (p : Value → Bool) (xs w : List ℕ) (at : ℕ) → 4096 ≡ formEnd c p xs w at (headIn k (h % payload)))
+      → (o ≡ true → (p : Value → Bool) (xs w : List ℕ) (at : ℕ) → termsEnd c p xs w n at ≡ formEnd c p xs w at (headIn k (h % payload))) → Operands c h r
   unfolding Closed
   operands-by z l f y = go o (t .is) f y
     where
-      go : (o : Bool) → r ≡ cond o n 0 → (o ≡ false → (p : Value → Bool) (xs w : List ℕ) (at : ℕ) → 4096 ≡ formEnd c p xs w at (headIn k (h % 16777216)))
-          → (o ≡ true → (p : Value → Bool) (xs w : List ℕ) (at : ℕ) → termsEnd c p xs w n at ≡ formEnd c p xs w at (headIn k (h % 16777216))) → Operands c h r
+      go : (o : Bool) → r ≡ cond o n 0 → (o ≡ false → (p : Value → Bool) (xs w : List ℕ) (at : ℕ) → 4096 ≡ formEnd c p xs w at (headIn k (h % payload)))
+          → (o ≡ true → (p : Value → Bool) (xs w : List ℕ) (at : ℕ) → termsEnd c p xs w n at ≡ formEnd c p xs w at (headIn k (h % payload))) → Operands c h r
       go true i f y = record {
         few = omega arith;
         none = λ u. absurd (omega arith);
@@ -95,10 +96,10 @@ module _ (c h r n : ℕ) (o : Bool) (t : Counted o n r) (k : ℕ) (e : h / 16777
 
 module _ (c h r : ℕ) where
   abbrev q : ℕ
-  q = h % 16777216
+  q = h % payload
 
   abbrev k : ℕ
-  k = h / 16777216
+  k = h / payload
 
   -- operands alone, and no payload
   pub operands-bare : (i n : ℕ) → i ≡ rowIn k / 16 → i ≡ 1 → n ≡ rowIn k % 4 → Counted (eqb q 0) n r → Operands c h r
@@ -114,23 +115,23 @@ module _ (c h r : ℕ) where
 
   module _ (m : c ≤ 64) (o : Bool) (e : o ≡ isName c q) where
     -- a name is one of those that have a head
-    named : o ≡ true → ltb q 127 ≡ true
-    named z = go (ltb q 127) refl
+    named : o ≡ true → ltb q noName ≡ true
+    named z = go (ltb q noName) refl
       where
-        go : (b : Bool) → ltb q 127 ≡ b → b ≡ true
+        go : (b : Bool) → ltb q noName ≡ b → b ≡ true
         go true i = refl
-        go false i = absurd (true≢false (sym z ∙ e ∙ name-past c m q (ltb-false q 127 i)))
+        go false i = absurd (true≢false (sym z ∙ e ∙ name-past c m q (ltb-false q noName i)))
 
     pub operands-field : (i n : ℕ) → i ≡ rowIn k / 16 → i ≡ 2 → n ≡ rowIn k % 4 → Counted o n r → Operands c h r
     unfolding headIn headOf
     operands-field i n a b v t =
         let (f, m, d, u) = field-found k (sym a ∙ b) in
         let j : n ≡ m = v ∙ field-row f k m d u .0 in
-        let g : headIn k q ≡ only (ltb q 127) (many (written (f q)) m) = rw u in
+        let g : headIn k q ≡ only (ltb q noName) (many (written (f q)) m) = rw u in
         let y : operable c (written (f q)) m ≡ isName c q && true = rw (d .0 q .1, eq-eqb m m refl) in
         operands-by c h r m o (rw j at t) k refl (d .1) (omega (arith, d .2))
-        (λ z p xs w at. rw g (only-none c p xs w at (ltb q 127) (many (written (f q)) m) (λ u. many-none c p xs w at (written (f q)) m (y ∙ rw (sym e ∙ z)))))
-        (λ z p xs w at. rw g (only-some c p xs w at (ltb q 127) _ (many (written (f q)) m) (named z) (many-some c p xs w at (written (f q)) m (y ∙ rw (sym e ∙ z)))))
+        (λ z p xs w at. rw g (only-none c p xs w at (ltb q noName) (many (written (f q)) m) (λ u. many-none c p xs w at (written (f q)) m (y ∙ rw (sym e ∙ z)))))
+        (λ z p xs w at. rw g (only-some c p xs w at (ltb q noName) _ (many (written (f q)) m) (named z) (many-some c p xs w at (written (f q)) m (y ∙ rw (sym e ∙ z)))))
 
   -- calls and sends, by what is asked of a name with so many arguments
   module _ (f : Name → Op Name) (a : Name → ℕ → Bool) (few : (m : Name) (n : ℕ) → 8 ≤ n → a m n ≡ false) (well : (m : Name) (n : ℕ) → operable c (f m) (suc n) ≡ a m n) where
@@ -153,20 +154,20 @@ module _ (c h r : ℕ) where
         go true i = refl
         go false i = absurd (true≢false (sym e ∙ few m n (ltb-false n 8 i)))
 
-    operands-asked : (o : Bool) (k n : ℕ) → h / 16777216 ≡ k → headIn k q ≡ askIn f q → o ≡ within (λ m. a m (q / 128 / 4)) (nameOf (q / 128 % 4) (q % 128)) → Arguments q n → Counted o n r → Operands c h r
+    operands-asked : (o : Bool) (k n : ℕ) → h / payload ≡ k → headIn k q ≡ askIn f q → o ≡ within (λ m. a m (q / nameLimit / tagLimit)) (nameOf (q / nameLimit % tagLimit) (q % nameLimit)) → Arguments q n → Counted o n r → Operands c h r
     operands-asked o k n e i j g t =
-        let x = nameOf (q / 128 % 4) (q % 128) in
-        let s : n ≡ suc (q / 128 / 4) = omega (arith, g .is) in
+        let x = nameOf (q / nameLimit % tagLimit) (q % nameLimit) in
+        let s : n ≡ suc (q / nameLimit / tagLimit) = omega (arith, g .is) in
         operands-by c h r n o t k e (omega arith) (g .few)
-        (λ z p xs w at. rw i (only-none c p xs w at (ltb (q / 128 / 4) 8) _ (λ u. asked-none p xs w at (q / 128 / 4) x (sym j ∙ z))))
-        (λ z p xs w at. rw (i, s) (only-some c p xs w at (ltb (q / 128 / 4) 8) _ _ (asked-few (q / 128 / 4) x (sym j ∙ z)) (asked-some p xs w at (q / 128 / 4) x (sym j ∙ z))))
+        (λ z p xs w at. rw i (only-none c p xs w at (ltb (q / nameLimit / tagLimit) 8) _ (λ u. asked-none p xs w at (q / nameLimit / tagLimit) x (sym j ∙ z))))
+        (λ z p xs w at. rw (i, s) (only-some c p xs w at (ltb (q / nameLimit / tagLimit) 8) _ _ (asked-few (q / nameLimit / tagLimit) x (sym j ∙ z)) (asked-some p xs w at (q / nameLimit / tagLimit) x (sym j ∙ z))))
 
   module _ (o : Bool) (n : ℕ) (a : Arguments q n) (t : Counted o n r) where
-    pub operands-call : h / 16777216 ≡ 13 → o ≡ callIn c q → Operands c h r
+    pub operands-call : h / payload ≡ 13 → o ≡ callIn c q → Operands c h r
     unfolding Kinds headIn headOf callIn
     operands-call k e = operands-asked call (callable c) (few-called c) (λ m n. refl) o 13 n k refl e a t
 
-    pub operands-send : h / 16777216 ≡ 14 → o ≡ sendIn c q → Operands c h r
+    pub operands-send : h / payload ≡ 14 → o ≡ sendIn c q → Operands c h r
     unfolding Kinds headIn headOf sendIn
     operands-send k e = operands-asked send (sendable c) (few-sent c) (λ m n. refl) o 14 n k refl e a t
 
@@ -192,16 +193,16 @@ other (Form.literal Kind.isolate) l u k11 k12 k13 k14 k15 k16 k17 p = absurd (k1
 other (Form.literal Kind.actor) l u k11 k12 k13 k14 k15 k16 k17 p = absurd (k17 refl)
 
 module _ (c h : ℕ) where
-  pub operands-none : 117440512 ≤ h → Unlisted (h / 16777216) → (h / 16777216 ≡ 13 → ⊥) → (h / 16777216 ≡ 14 → ⊥) → Operands c h 0
+  pub operands-none : (7 * payload) ≤ h → Unlisted (h / payload) → (h / payload ≡ 13 → ⊥) → (h / payload ≡ 14 → ⊥) → Operands c h 0
   unfolding Closed Unlisted headAt headIn headOf formed endOf rowIn
   operands-none l u k13 k14 = record {
     few = omega arith;
     none = λ z k11 k12 k15 k16 k17 p xs w at.
-        rw (by-form Other (λ x l u a b d e f g j p. refl) other (h / 16777216) (omega arith) u k11 k12 k13 k14 k15 k16 k17 (h % 16777216));
+        rw (by-form Other (λ x l u a b d e f g j p. refl) other (h / payload) (omega arith) u k11 k12 k13 k14 k15 k16 k17 (h % payload));
     some = λ z. absurd (omega arith);
   }
 
-  pub unlisted : (r : ℕ) → r ≡ rowIn (h / 16777216) / 16 → (r ≡ 1 → ⊥) → (r ≡ 2 → ⊥) → Unlisted (h / 16777216)
+  pub unlisted : (r : ℕ) → r ≡ rowIn (h / payload) / 16 → (r ≡ 1 → ⊥) → (r ≡ 2 → ⊥) → Unlisted (h / payload)
   unfolding Unlisted
   unlisted r e a b = (λ z. a (e ∙ z), λ z. b (e ∙ z))
 
@@ -209,27 +210,27 @@ pub ruleset operand-laws = (needs, operands-bare, operands-field, operands-call,
 
 -- ---- forms
 module _ (c : ℕ) (p : Value → Bool) (F : List ℕ) (g : ℕ) (w : List ℕ) (h at r : ℕ) where
-  pub form-let : h / 16777216 ≡ 11 → FormEnds c p F g w 11 (h % 16777216) at r → FormEnds c p F g w (h / 16777216) (h % 16777216) at r
+  pub form-let : h / payload ≡ 11 → FormEnds c p F g w 11 (h % payload) at r → FormEnds c p F g w (h / payload) (h % payload) at r
   form-let k j = rw k j
 
-  pub form-future : h / 16777216 ≡ 12 → FormEnds c p F g w 12 (h % 16777216) at r → FormEnds c p F g w (h / 16777216) (h % 16777216) at r
+  pub form-future : h / payload ≡ 12 → FormEnds c p F g w 12 (h % payload) at r → FormEnds c p F g w (h / payload) (h % payload) at r
   form-future k j = rw k j
 
   module _ (j : LiteralEnds c p F g w h at r) where
-    pub form-object : h / 16777216 ≡ 15 → FormEnds c p F g w (h / 16777216) (h % 16777216) at r
+    pub form-object : h / payload ≡ 15 → FormEnds c p F g w (h / payload) (h % payload) at r
     unfolding FormEnds LiteralEnds kindNumber headAt Kinds headIn headOf
     form-object k xs s = by-kind c p xs w h at 15 r k (j Kind.object k xs s)
 
-    pub form-isolate : h / 16777216 ≡ 16 → FormEnds c p F g w (h / 16777216) (h % 16777216) at r
+    pub form-isolate : h / payload ≡ 16 → FormEnds c p F g w (h / payload) (h % payload) at r
     unfolding FormEnds LiteralEnds kindNumber headAt Kinds headIn headOf
     form-isolate k xs s = by-kind c p xs w h at 16 r k (j Kind.isolate k xs s)
 
-    pub form-actor : h / 16777216 ≡ 17 → FormEnds c p F g w (h / 16777216) (h % 16777216) at r
+    pub form-actor : h / payload ≡ 17 → FormEnds c p F g w (h / payload) (h % payload) at r
     unfolding FormEnds LiteralEnds kindNumber headAt Kinds headIn headOf
     form-actor k xs s = by-kind c p xs w h at 17 r k (j Kind.actor k xs s)
 
-  pub form-none : Closed c h → (h / 16777216 ≡ 11 → ⊥) → (h / 16777216 ≡ 12 → ⊥) → (h / 16777216 ≡ 15 → ⊥) → (h / 16777216 ≡ 16 → ⊥) → (h / 16777216 ≡ 17 → ⊥)
-      → FormEnds c p F g w (h / 16777216) (h % 16777216) at 4096
+  pub form-none : Closed c h → (h / payload ≡ 11 → ⊥) → (h / payload ≡ 12 → ⊥) → (h / payload ≡ 15 → ⊥) → (h / payload ≡ 16 → ⊥) → (h / payload ≡ 17 → ⊥)
+      → FormEnds c p F g w (h / payload) (h % payload) at 4096
   unfolding FormEnds Closed headAt
   form-none o k11 k12 k15 k16 k17 xs s = o k11 k12 k15 k16 k17 p xs w at
 
@@ -237,51 +238,51 @@ pub ruleset form-laws = (needs, form-let, form-future, form-object, form-isolate
 
 -- ---- binders
 -- two names, with an empty place behind them
-module _ (p : ℕ) (h : p / 128 < 127) where
-  two-places : ((p + 2080768) % 128 ≡ p % 128) × ((p + 2080768) / 128 % 128 ≡ p / 128) × ((p + 2080768) / 16384 % 128 ≡ 127)
+module _ (p : ℕ) (h : p / nameLimit < noName) where
+  two-places : ((p + noName * pairLimit) % nameLimit ≡ p % nameLimit) × ((p + noName * pairLimit) / nameLimit % nameLimit ≡ p / nameLimit) × ((p + noName * pairLimit) / pairLimit % nameLimit ≡ noName)
   two-places =
-      let a : (p + 2080768) / 128 ≡ p / 128 + 128 * 127 = omega arith in
-      let b : (p + 2080768) / 16384 ≡ 127 = omega arith in
-      (omega arith, rw a (pack-low 128 (p / 128) 127 (omega arith)), rw b)
+      let a : (p + noName * pairLimit) / nameLimit ≡ p / nameLimit + nameLimit * noName = omega arith in
+      let b : (p + noName * pairLimit) / pairLimit ≡ noName = omega arith in
+      (omega arith, rw a (pack-low nameLimit (p / nameLimit) noName (omega arith)), rw b)
 
 -- a variable has its place in a scope
-pub let-place : (c x : ℕ) (o : Bool) → o ≡ isVariable c x → o ≡ true → c ≤ 64 → x < 128
+pub let-place : (c x : ℕ) (o : Bool) → o ≡ isVariable c x → o ≡ true → c ≤ 64 → x < nameLimit
 let-place c x o e t m = omega (arith, variable-below c x m (sym e ∙ t))
 
 module _ (c : ℕ) (p : Value → Bool) (F : List ℕ) (g : ℕ) (w : List ℕ) (at x : ℕ) (o : Bool) where
   pub let-not : o ≡ isVariable c x → o ≡ false → FormEnds c p F g w 11 x at 4096
   unfolding FormEnds Kinds headIn headOf wellFormed formed
   let-not e t xs s =
-      only-none c p xs w at (ltb x 127) (binary (λ d g. letIn x d g)) (λ u. binary-none c p xs w at (λ d g. letIn x d g) (λ d g. rw (sym e ∙ t)))
+      only-none c p xs w at (ltb x noName) (binary (λ d g. letIn x d g)) (λ u. binary-none c p xs w at (λ d g. letIn x d g) (λ d g. rw (sym e ∙ t)))
 
-  pub let-well : (a u r : ℕ) (G H : List ℕ) → length w ≤ 1536 → c ≤ 64 → o ≡ isVariable c x → o ≡ true → TermEnds c p F g w at a → Kept F G → Swapped G x g H u → TermEnds c p H g w a r → FormEnds c p F g w 11 x at r
+  pub let-well : (a u r : ℕ) (G H : List ℕ) → length w ≤ bodiesSize → c ≤ 64 → o ≡ isVariable c x → o ≡ true → TermEnds c p F g w at a → Kept F G → Swapped G x g H u → TermEnds c p H g w a r → FormEnds c p F g w 11 x at r
   unfolding FormEnds TermEnds Kept Kinds headIn headOf wellFormed formed
   let-well a u r G H l m e t i k b j xs s =
       let v : isVariable c x ≡ true = sym e ∙ t in
       let y = variable-below c x m v in
       let n : Scope H g (x ∷ xs) = rw (b .new) (scope-bind G g xs (rw k s) x y) in
-      j (x ∷ xs) n ∙ rw (i xs s, lt-ltb x 127 y)
+      j (x ∷ xs) n ∙ rw (i xs s, lt-ltb x noName y)
       (ends-pair (λ d g. letIn x d g) (wellFormed c p xs) (wellFormed c p xs) (wellFormed c p (x ∷ xs)) (parse w at) (λ i. parse w i) (term-nowhere w (omega arith) (wellFormed c p (x ∷ xs)))
       (λ d n g m u w. rw v))
 
-  pub future-not : o ≡ two c (x % 128) (x / 128) → o ≡ false → FormEnds c p F g w 12 x at 4096
+  pub future-not : o ≡ two c (x % nameLimit) (x / nameLimit) → o ≡ false → FormEnds c p F g w 12 x at 4096
   unfolding FormEnds Kinds headIn headOf wellFormed formed two
   future-not e t xs s =
-      only-none c p xs w at (ltb (x % 128) 127) (only (ltb (x / 128) 127) (unary (λ d. future (x % 128) (x / 128) d)))
-      (λ u. only-none c p xs w at (ltb (x / 128) 127) (unary (λ d. future (x % 128) (x / 128) d)) (λ v. unary-none c p xs w at (λ d. future (x % 128) (x / 128) d) (λ d. rw (sym e ∙ t))))
+      only-none c p xs w at (ltb (x % nameLimit) noName) (only (ltb (x / nameLimit) noName) (unary (λ d. future (x % nameLimit) (x / nameLimit) d)))
+      (λ u. only-none c p xs w at (ltb (x / nameLimit) noName) (unary (λ d. future (x % nameLimit) (x / nameLimit) d)) (λ v. unary-none c p xs w at (λ d. future (x % nameLimit) (x / nameLimit) d) (λ d. rw (sym e ∙ t))))
 
-  pub future-well : (r : ℕ) → c ≤ 64 → o ≡ two c (x % 128) (x / 128) → o ≡ true → TermEnds c p (bound F g (x + 2080768)) g w at r → FormEnds c p F g w 12 x at r
+  pub future-well : (r : ℕ) → c ≤ 64 → o ≡ two c (x % nameLimit) (x / nameLimit) → o ≡ true → TermEnds c p (bound F g (x + noName * pairLimit)) g w at r → FormEnds c p F g w 12 x at r
   unfolding FormEnds TermEnds Kinds headIn headOf wellFormed formed two
   future-well r m e t j xs s =
-      let u : two c (x % 128) (x / 128) ≡ true = sym e ∙ t in
-      let v = and₂ (isVariable c (x % 128) && isVariable c (x / 128)) (not (eqb (x % 128) (x / 128))) u in
-      let k = and₂ (isVariable c (x % 128)) (isVariable c (x / 128)) (v .0) in
-      let b = variable-below c (x % 128) m (k .0) in
-      let d = variable-below c (x / 128) m (k .1) in
+      let u : two c (x % nameLimit) (x / nameLimit) ≡ true = sym e ∙ t in
+      let v = and₂ (isVariable c (x % nameLimit) && isVariable c (x / nameLimit)) (not (eqb (x % nameLimit) (x / nameLimit))) u in
+      let k = and₂ (isVariable c (x % nameLimit)) (isVariable c (x / nameLimit)) (v .0) in
+      let b = variable-below c (x % nameLimit) m (k .0) in
+      let d = variable-below c (x / nameLimit) m (k .1) in
       let y = two-places x d in
-      let n : Scope (bound F g (x + 2080768)) g (x % 128 ∷ x / 128 ∷ xs) = rw (y .0, y .1) at (two-bound F g xs s (x + 2080768) (rw (y .0) b) (rw (y .1) d) (y .2)) in
-      j (x % 128 ∷ x / 128 ∷ xs) n ∙ rw (lt-ltb (x % 128) 127 b, lt-ltb (x / 128) 127 d)
-      (ends-on (λ d. future (x % 128) (x / 128) d) (wellFormed c p xs) (wellFormed c p (x % 128 ∷ x / 128 ∷ xs)) (parse w at) (λ d n g. rw u))
+      let n : Scope (bound F g (x + noName * pairLimit)) g (x % nameLimit ∷ x / nameLimit ∷ xs) = rw (y .0, y .1) at (two-bound F g xs s (x + noName * pairLimit) (rw (y .0) b) (rw (y .1) d) (y .2)) in
+      j (x % nameLimit ∷ x / nameLimit ∷ xs) n ∙ rw (lt-ltb (x % nameLimit) noName b, lt-ltb (x / nameLimit) noName d)
+      (ends-on (λ d. future (x % nameLimit) (x / nameLimit) d) (wellFormed c p xs) (wellFormed c p (x % nameLimit ∷ x / nameLimit ∷ xs)) (parse w at) (λ d n g. rw u))
 
 -- ---- in a scope with three names more
 pub inside-ends : (c : ℕ) (p : Value → Bool) (F : List ℕ) (g : ℕ) (w : List ℕ) (at n r : ℕ) (G : List ℕ) (x y z : ℕ) → Bound F g n G x y z → TermEnds c p G g w at r → TermEnds c p (bound F g n) g w at r

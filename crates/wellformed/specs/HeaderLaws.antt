@@ -1,5 +1,5 @@
 -- The laws of the functions that test headers: one for each way to return. Assumes nothing.
-use Prim.Native.Nat.{ℕ, _+_, _/_, _%_, _≤_, _<_}
+use Prim.Native.Nat.{ℕ, _+_, _*_, _/_, _%_, _≤_, _<_}
 use mathlib.Core.Path.{_≡_, refl, sym, _∙_}
 use mathlib.Core.Bool.{Bool, true, false, _&&_, not, cond, and-true, and-false}
 use mathlib.Core.List.{List, [], _∷_}
@@ -11,6 +11,7 @@ use lib.Dec.{eqb, ltb, leb}
 use Rattle.atlite.specs.Base.{if_then_else_, member, distinct, all}
 use Rattle.atlite.specs.Valid.{isName, isVariable, parameters}
 use Rattle.atlite.specs.Facts.{and₂}
+use Rattle.layout.specs.Numbers.{payload, fieldKind, nameLimit, noName, tagLimit, taggedLimit, secondPlace, thirdPlace}
 use Rattle.layout.specs.Parse.{fieldAt, placesIn, paramsAt, named, methodAt}
 use Rattle.wellformed.specs.Words.{within}
 use Rattle.wellformed.specs.WordLaws.{name-past}
@@ -19,17 +20,17 @@ use Rattle.wellformed.specs.NameLaws.{name-below, variable-below}
 
 -- ---- fields
 module _ (c h N : ℕ) where
-  pub field-other : (h / 16777216 ≡ 128 → ⊥) → FieldHeader c N h false
+  pub field-other : (h / payload ≡ fieldKind → ⊥) → FieldHeader c N h false
   unfolding FieldHeader fieldAt within
-  field-other k n ns z m = rw (ne-eqb (h / 16777216) 128 k)
+  field-other k n ns z m = rw (ne-eqb (h / payload) fieldKind k)
 
-  pub field-name : (r : Bool) → c ≤ 64 → h / 16777216 ≡ 128 → Fresh c N (h % 16777216) r → FieldHeader c N h r
+  pub field-name : (r : Bool) → c ≤ 64 → h / payload ≡ fieldKind → Fresh c N (h % payload) r → FieldHeader c N h r
   unfolding FieldHeader Fresh fieldAt within fresh
-  field-name r l k i n ns z m = rw k (go (ltb (h % 16777216) 127) refl)
+  field-name r l k i n ns z m = rw k (go (ltb (h % payload) noName) refl)
     where
-      go : (b : Bool) → ltb (h % 16777216) 127 ≡ b → r ≡ within (fresh c ns) (cond b (some (h % 16777216)) none)
+      go : (b : Bool) → ltb (h % payload) noName ≡ b → r ≡ within (fresh c ns) (cond b (some (h % payload)) none)
       go true e = i n ns z m
-      go false e = i n ns z m ∙ rw (name-past c l (h % 16777216) (ltb-false (h % 16777216) 127 e))
+      go false e = i n ns z m ∙ rw (name-past c l (h % payload) (ltb-false (h % payload) noName e))
 
 -- ---- places
 module _ (c x y : ℕ) (o : Bool) (e : o ≡ isVariable c x) where
@@ -69,17 +70,17 @@ module _ (c x y z : ℕ) (o : Bool) (e : o ≡ isVariable c z) where
     third-yes i j = rw (sym e ∙ t, ne-eqb x z i, ne-eqb y z j)
 
 module _ (y z : ℕ) where
-  pub empty-yes : y ≡ 127 → z ≡ 127 → true ≡ empty y z
+  pub empty-yes : y ≡ noName → z ≡ noName → true ≡ empty y z
   unfolding empty
   empty-yes e i = rw (e, i)
 
-  pub empty-second : y ≡ 127 → (z ≡ 127 → ⊥) → false ≡ empty y z
+  pub empty-second : y ≡ noName → (z ≡ noName → ⊥) → false ≡ empty y z
   unfolding empty
-  empty-second e i = rw (e, ne-eqb z 127 i)
+  empty-second e i = rw (e, ne-eqb z noName i)
 
-  pub empty-first : (y ≡ 127 → ⊥) → false ≡ empty y z
+  pub empty-first : (y ≡ noName → ⊥) → false ≡ empty y z
   unfolding empty
-  empty-first e = rw (ne-eqb y 127 e)
+  empty-first e = rw (ne-eqb y noName e)
 
 pub small-counts : (p : ℕ) → p % 8 ≤ 4 → leb (p / 8) 4 ≡ leb (p % 8) 4 && leb (p / 8) 4
 small-counts p l = rw (le-leb (p % 8) 4 l)
@@ -93,7 +94,7 @@ pub ruleset field-laws = (needs, field-other, field-name)
 
 -- ---- parameters
 module _ (c : ℕ) where
-  variable-past : c ≤ 64 → (x : ℕ) → 127 ≤ x → isVariable c x ≡ false
+  variable-past : c ≤ 64 → (x : ℕ) → noName ≤ x → isVariable c x ≡ false
   unfolding isVariable
   variable-past l x h = rw (lt-ltb 0 x (omega arith), le-ltb x (8 + c) (omega arith))
 
@@ -153,83 +154,83 @@ module _ {A : Type 0} (t : A → Bool) where
   within-both false d l h = refl
 
 module _ (c : ℕ) (l : c ≤ 64) (x y z : ℕ) where
-  places-none : x ≡ 127 → empty y z ≡ within (parameters c) (placesIn 0 x y z)
+  places-none : x ≡ noName → empty y z ≡ within (parameters c) (placesIn 0 x y z)
   unfolding empty placesIn
-  places-none e = rw e (within-both (parameters c) (eqb y 127) (eqb z 127) [] (no-parameter c))
+  places-none e = rw e (within-both (parameters c) (eqb y noName) (eqb z noName) [] (no-parameter c))
 
-  places-full : (x ≡ 127 → ⊥) → false ≡ within (parameters c) (placesIn 0 x y z)
+  places-full : (x ≡ noName → ⊥) → false ≡ within (parameters c) (placesIn 0 x y z)
   unfolding placesIn within
-  places-full e = rw (ne-eqb x 127 e)
+  places-full e = rw (ne-eqb x noName e)
 
   places-one : isVariable c x ≡ true → empty y z ≡ within (parameters c) (placesIn 1 x y z)
   unfolding empty placesIn
-  places-one e = rw (lt-ltb x 127 (variable-below c x l e)) (within-both (parameters c) (eqb y 127) (eqb z 127) (x ∷ []) (one-parameter c x ∙ e))
+  places-one e = rw (lt-ltb x noName (variable-below c x l e)) (within-both (parameters c) (eqb y noName) (eqb z noName) (x ∷ []) (one-parameter c x ∙ e))
 
-  places-two : two c x y ≡ true → eqb z 127 ≡ within (parameters c) (placesIn 2 x y z)
+  places-two : two c x y ≡ true → eqb z noName ≡ within (parameters c) (placesIn 2 x y z)
   unfolding placesIn two
   places-two e =
       let v = and₂ (isVariable c x && isVariable c y) (not (eqb x y)) e in
       let u = and₂ (isVariable c x) (isVariable c y) (v .0) in
-      rw (lt-ltb x 127 (variable-below c x l (u .0)), lt-ltb y 127 (variable-below c y l (u .1)))
-      (within-both (parameters c) true (eqb z 127) (x ∷ y ∷ []) (two-parameters c x y ∙ e))
+      rw (lt-ltb x noName (variable-below c x l (u .0)), lt-ltb y noName (variable-below c y l (u .1)))
+      (within-both (parameters c) true (eqb z noName) (x ∷ y ∷ []) (two-parameters c x y ∙ e))
 
   places-three : two c x y ≡ true → third c x y z ≡ within (parameters c) (placesIn 3 x y z)
   unfolding placesIn two third within
   places-three e =
       let v = and₂ (isVariable c x && isVariable c y) (not (eqb x y)) e in
       let u = and₂ (isVariable c x) (isVariable c y) (v .0) in
-      rw (lt-ltb x 127 (variable-below c x l (u .0)), lt-ltb y 127 (variable-below c y l (u .1))) (go (ltb z 127) refl)
+      rw (lt-ltb x noName (variable-below c x l (u .0)), lt-ltb y noName (variable-below c y l (u .1))) (go (ltb z noName) refl)
     where
-      go : (b : Bool) → ltb z 127 ≡ b → third c x y z ≡ within (parameters c) (cond b (some (x ∷ y ∷ z ∷ [])) none)
+      go : (b : Bool) → ltb z noName ≡ b → third c x y z ≡ within (parameters c) (cond b (some (x ∷ y ∷ z ∷ [])) none)
       go true i = sym (three-parameters c x y z ∙ rw e)
-      go false i = rw (variable-past c l z (ltb-false z 127 i))
+      go false i = rw (variable-past c l z (ltb-false z noName i))
 
   not-one : isVariable c x ≡ false → false ≡ within (parameters c) (placesIn 1 x y z)
   unfolding placesIn within
-  not-one e = sym (within-not _ (ltb x 127) _ (within-not _ (eqb y 127) _ (within-not _ (eqb z 127) (some (x ∷ [])) (one-parameter c x ∙ e))))
+  not-one e = sym (within-not _ (ltb x noName) _ (within-not _ (eqb y noName) _ (within-not _ (eqb z noName) (some (x ∷ [])) (one-parameter c x ∙ e))))
 
   not-two : two c x y ≡ false → false ≡ within (parameters c) (placesIn 2 x y z)
   unfolding placesIn within
-  not-two e = sym (within-not _ (ltb x 127) _ (within-not _ (ltb y 127) _ (within-not _ (eqb z 127) (some (x ∷ y ∷ [])) (two-parameters c x y ∙ e))))
+  not-two e = sym (within-not _ (ltb x noName) _ (within-not _ (ltb y noName) _ (within-not _ (eqb z noName) (some (x ∷ y ∷ [])) (two-parameters c x y ∙ e))))
 
   not-three : two c x y ≡ false → false ≡ within (parameters c) (placesIn 3 x y z)
   unfolding placesIn within
-  not-three e = sym (within-not _ (ltb x 127) _ (within-not _ (ltb y 127) _ (within-not _ (ltb z 127) (some (x ∷ y ∷ z ∷ [])) (three-parameters c x y z ∙ rw e))))
+  not-three e = sym (within-not _ (ltb x noName) _ (within-not _ (ltb y noName) _ (within-not _ (ltb z noName) (some (x ∷ y ∷ z ∷ [])) (three-parameters c x y z ∙ rw e))))
 
 module _ (c h : ℕ) (r : Bool) where
   -- the number of parameters that was found
-  counted : (n : ℕ) → h / 128 % 4 ≡ n → r ≡ within (parameters c) (placesIn n (h / 512 % 128) (h / 65536 % 128) (h / 8388608 % 128)) → r ≡ within (parameters c) (paramsAt h)
+  counted : (n : ℕ) → h / nameLimit % tagLimit ≡ n → r ≡ within (parameters c) (placesIn n (h / taggedLimit % nameLimit) (h / secondPlace % nameLimit) (h / thirdPlace % nameLimit)) → r ≡ within (parameters c) (paramsAt h)
   unfolding paramsAt
   counted n k i = rw k i
 
-  last-count : (h / 128 % 4 ≡ 0 → ⊥) → (h / 128 % 4 ≡ 1 → ⊥) → (h / 128 % 4 ≡ 2 → ⊥) → h / 128 % 4 ≡ 3
+  last-count : (h / nameLimit % tagLimit ≡ 0 → ⊥) → (h / nameLimit % tagLimit ≡ 1 → ⊥) → (h / nameLimit % tagLimit ≡ 2 → ⊥) → h / nameLimit % tagLimit ≡ 3
   last-count i j k = omega arith
 
   module _ (l : c ≤ 64) where
-    pub params-none : h / 128 % 4 ≡ 0 → h / 512 % 128 ≡ 127 → r ≡ empty (h / 65536 % 128) (h / 8388608 % 128) → r ≡ within (parameters c) (paramsAt h)
+    pub params-none : h / nameLimit % tagLimit ≡ 0 → h / taggedLimit % nameLimit ≡ noName → r ≡ empty (h / secondPlace % nameLimit) (h / thirdPlace % nameLimit) → r ≡ within (parameters c) (paramsAt h)
     params-none k e i = counted 0 k (i ∙ places-none c l _ _ _ e)
 
-    pub params-one : (o : Bool) → h / 128 % 4 ≡ 1 → o ≡ isVariable c (h / 512 % 128) → o ≡ true → r ≡ empty (h / 65536 % 128) (h / 8388608 % 128) → r ≡ within (parameters c) (paramsAt h)
+    pub params-one : (o : Bool) → h / nameLimit % tagLimit ≡ 1 → o ≡ isVariable c (h / taggedLimit % nameLimit) → o ≡ true → r ≡ empty (h / secondPlace % nameLimit) (h / thirdPlace % nameLimit) → r ≡ within (parameters c) (paramsAt h)
     params-one o k e t i = counted 1 k (i ∙ places-one c l _ _ _ (sym e ∙ t))
 
-    pub params-two : (o : Bool) → h / 128 % 4 ≡ 2 → o ≡ two c (h / 512 % 128) (h / 65536 % 128) → o ≡ true → r ≡ eqb (h / 8388608 % 128) 127 → r ≡ within (parameters c) (paramsAt h)
+    pub params-two : (o : Bool) → h / nameLimit % tagLimit ≡ 2 → o ≡ two c (h / taggedLimit % nameLimit) (h / secondPlace % nameLimit) → o ≡ true → r ≡ eqb (h / thirdPlace % nameLimit) noName → r ≡ within (parameters c) (paramsAt h)
     params-two o k e t i = counted 2 k (i ∙ places-two c l _ _ _ (sym e ∙ t))
 
-    pub params-three : (o : Bool) → (h / 128 % 4 ≡ 0 → ⊥) → (h / 128 % 4 ≡ 1 → ⊥) → (h / 128 % 4 ≡ 2 → ⊥) → o ≡ two c (h / 512 % 128) (h / 65536 % 128) → o ≡ true
-        → r ≡ third c (h / 512 % 128) (h / 65536 % 128) (h / 8388608 % 128) → r ≡ within (parameters c) (paramsAt h)
+    pub params-three : (o : Bool) → (h / nameLimit % tagLimit ≡ 0 → ⊥) → (h / nameLimit % tagLimit ≡ 1 → ⊥) → (h / nameLimit % tagLimit ≡ 2 → ⊥) → o ≡ two c (h / taggedLimit % nameLimit) (h / secondPlace % nameLimit) → o ≡ true
+        → r ≡ third c (h / taggedLimit % nameLimit) (h / secondPlace % nameLimit) (h / thirdPlace % nameLimit) → r ≡ within (parameters c) (paramsAt h)
     params-three o a b d e t i = counted 3 (last-count a b d) (i ∙ places-three c l _ _ _ (sym e ∙ t))
 
 module _ (c h : ℕ) (l : c ≤ 64) where
-  pub params-full : h / 128 % 4 ≡ 0 → (h / 512 % 128 ≡ 127 → ⊥) → false ≡ within (parameters c) (paramsAt h)
+  pub params-full : h / nameLimit % tagLimit ≡ 0 → (h / taggedLimit % nameLimit ≡ noName → ⊥) → false ≡ within (parameters c) (paramsAt h)
   params-full k e = counted c h false 0 k (places-full c l _ _ _ e)
 
-  pub params-not-one : (o : Bool) → h / 128 % 4 ≡ 1 → o ≡ isVariable c (h / 512 % 128) → o ≡ false → false ≡ within (parameters c) (paramsAt h)
+  pub params-not-one : (o : Bool) → h / nameLimit % tagLimit ≡ 1 → o ≡ isVariable c (h / taggedLimit % nameLimit) → o ≡ false → false ≡ within (parameters c) (paramsAt h)
   params-not-one o k e t = counted c h false 1 k (not-one c l _ _ _ (sym e ∙ t))
 
-  pub params-not-two : (o : Bool) → h / 128 % 4 ≡ 2 → o ≡ two c (h / 512 % 128) (h / 65536 % 128) → o ≡ false → false ≡ within (parameters c) (paramsAt h)
+  pub params-not-two : (o : Bool) → h / nameLimit % tagLimit ≡ 2 → o ≡ two c (h / taggedLimit % nameLimit) (h / secondPlace % nameLimit) → o ≡ false → false ≡ within (parameters c) (paramsAt h)
   params-not-two o k e t = counted c h false 2 k (not-two c l _ _ _ (sym e ∙ t))
 
-  pub params-not-three : (o : Bool) → (h / 128 % 4 ≡ 0 → ⊥) → (h / 128 % 4 ≡ 1 → ⊥) → (h / 128 % 4 ≡ 2 → ⊥) → o ≡ two c (h / 512 % 128) (h / 65536 % 128) → o ≡ false → false ≡ within (parameters c) (paramsAt h)
+  pub params-not-three : (o : Bool) → (h / nameLimit % tagLimit ≡ 0 → ⊥) → (h / nameLimit % tagLimit ≡ 1 → ⊥) → (h / nameLimit % tagLimit ≡ 2 → ⊥) → o ≡ two c (h / taggedLimit % nameLimit) (h / secondPlace % nameLimit) → o ≡ false → false ≡ within (parameters c) (paramsAt h)
   params-not-three o a b d e t = counted c h false 3 (last-count c h false a b d) (not-three c l _ _ _ (sym e ∙ t))
 
 pub ruleset param-laws = (needs, params-none, params-one, params-two, params-three, params-full, params-not-one, params-not-two, params-not-three)
@@ -241,22 +242,22 @@ module _ (c h N : ℕ) where
   head-within ns m none = sym (and-false (fresh c ns m))
   head-within ns m (some xs) = refl
 
-  pub method-other : (h / 1073741824 ≡ 3 → ⊥) → MethodHeader c N h false
+  pub method-other : (h / (64 * payload) ≡ 3 → ⊥) → MethodHeader c N h false
   unfolding MethodHeader methodAt within
-  method-other k n ns z m = rw (ne-eqb (h / 1073741824) 3 k)
+  method-other k n ns z m = rw (ne-eqb (h / (64 * payload)) 3 k)
 
-  module _ (o : Bool) (k : h / 1073741824 ≡ 3) (e : Fresh c N (h % 128) o) where
+  module _ (o : Bool) (k : h / (64 * payload) ≡ 3) (e : Fresh c N (h % nameLimit) o) where
     pub method-taken : o ≡ false → MethodHeader c N h false
     unfolding MethodHeader Fresh methodAt
     method-taken t n ns z m =
-        let i : fresh c ns (h % 128) ≡ false = sym (e n ns z m) ∙ t in
-        rw k (sym (within-not (methodHead c ns) (ltb (h % 128) 127) (named (h % 128) (paramsAt h)) (head-within ns (h % 128) (paramsAt h) ∙ rw i)))
+        let i : fresh c ns (h % nameLimit) ≡ false = sym (e n ns z m) ∙ t in
+        rw k (sym (within-not (methodHead c ns) (ltb (h % nameLimit) noName) (named (h % nameLimit) (paramsAt h)) (head-within ns (h % nameLimit) (paramsAt h) ∙ rw i)))
 
     pub method-named : (r : Bool) → c ≤ 64 → o ≡ true → r ≡ within (parameters c) (paramsAt h) → MethodHeader c N h r
     unfolding MethodHeader Fresh methodAt fresh
     method-named r l t i n ns z m =
-        let j : fresh c ns (h % 128) ≡ true = sym (e n ns z m) ∙ t in
-        let b = name-below c (h % 128) l (and₂ (isName c (h % 128)) (not (member (h % 128) ns)) j .0) in
-        rw (k, lt-ltb (h % 128) 127 b) (i ∙ sym (head-within ns (h % 128) (paramsAt h) ∙ rw j))
+        let j : fresh c ns (h % nameLimit) ≡ true = sym (e n ns z m) ∙ t in
+        let b = name-below c (h % nameLimit) l (and₂ (isName c (h % nameLimit)) (not (member (h % nameLimit) ns)) j .0) in
+        rw (k, lt-ltb (h % nameLimit) noName b) (i ∙ sym (head-within ns (h % nameLimit) (paramsAt h) ∙ rw j))
 
 pub ruleset method-laws = (needs, method-other, method-taken, method-named)

@@ -14,6 +14,7 @@ use Rattle.atlite.specs.Facts.{and₂}
 use Rattle.atlite.specs.Term.{Value, Term, cons, Inits, Methods, method}
 use Rattle.atlite.specs.Valid.{parameters}
 use Rattle.atlite.specs.ValidTest.{wellFormed, wellFormedAll}
+use Rattle.layout.specs.Numbers.{payload, nameLimit, taggedLimit, placesLimit, bodiesSize}
 use Rattle.layout.specs.Parse.{pair, headAt, fieldAt, methodAt, termsBy, initsBy, methodsBy, parseTerms, parseInits, parseMethods}
 use Rattle.layout.specs.ParseWords.{holding, field-word}
 use Rattle.layout.specs.ParseLaws.{parse, parse-step}
@@ -26,7 +27,7 @@ use Rattle.wellformed.specs.ShapeLaws.{one-term}
 
 -- ---- terms one behind another
 -- Terms are looked for where the first of them ends, and those behind some where these end. What fails ends at 4096, and so do all behind it.
-module _ (c : ℕ) (p : Value → Bool) (xs w : List ℕ) (l : length w ≤ 1536) where
+module _ (c : ℕ) (p : Value → Bool) (xs w : List ℕ) (l : length w ≤ bodiesSize) where
   first-end : (n i : ℕ) → 0 < n → termsEnd c p xs w (n - 1) (endOf (wellFormed c p xs) (parse w i)) ≡ termsEnd c p xs w n i
   unfolding termsBy wellFormed
   first-end zero i z = absurd (omega arith)
@@ -54,7 +55,7 @@ module _ (c : ℕ) (p : Value → Bool) (F : List ℕ) (g : ℕ) (w : List ℕ) 
     unfolding Left TermEnds termsBy endOf wellFormed
     left-none z xs s = let e : n ≡ 0 = omega arith in rw e at (q xs s)
 
-    module _ (l : length w ≤ 1536) (z : 0 < n) where
+    module _ (l : length w ≤ bodiesSize) (z : 0 < n) where
       -- the first of them
       first-left : (r : ℕ) (xs : List ℕ) → r ≡ endOf (wellFormed c p xs) (parse w i) → Scope F g xs → termsEnd c p xs w (n - 1) r ≡ endOf (wellFormed c p xs) (parse w at)
       unfolding Left
@@ -77,7 +78,7 @@ module _ (c : ℕ) (p : Value → Bool) (F : List ℕ) (g : ℕ) (w : List ℕ) 
           unfolding TermEnds Leaf Kept
           left-no-leaf u xs s = first-none xs (rw u at (y xs (rw k s) w (i + 1)) ∙ rw (parse-step w i)) s
 
-        pub left-form : (r : ℕ) → FormEnds c p G g w (getD w i 0 / 16777216) (getD w i 0 % 16777216) (i + 1) r → Left c p F g w at (n - 1) r
+        pub left-form : (r : ℕ) → FormEnds c p G g w (getD w i 0 / payload) (getD w i 0 % payload) (i + 1) r → Left c p F g w at (n - 1) r
         unfolding Left FormEnds Kept headAt
         left-form r j xs s = first-left r xs (j xs (rw k s) ∙ rw (parse-step w i)) s
 
@@ -118,7 +119,7 @@ module _ (c : ℕ) (p : Value → Bool) (F : List ℕ) (g : ℕ) (w : List ℕ) 
           go (suc n) z t =
               headed-none Inits.field (fresh c ns) (fieldsWell c p xs ns) (parse w (at + 1)) (λ i. parseInits (length w) w n i) (fieldAt (getD w at 0)) (sym (e (suc n) ns (omega arith) t) ∙ u) (λ f d fs k. rw k)
 
-      pub fields-more : (a M r : ℕ) (G : List ℕ) → length w ≤ 1536 → c ≤ 64 → o ≡ true → TermEnds c p F g w (at + 1) a → Kept F G → M ≡ getD w at 0 % 128 + 128 * (N % 2097152) → FieldsEnd c p G g w M (n - 1) a r → FieldsEnd c p F g w N n at r
+      pub fields-more : (a M r : ℕ) (G : List ℕ) → length w ≤ bodiesSize → c ≤ 64 → o ≡ true → TermEnds c p F g w (at + 1) a → Kept F G → M ≡ getD w at 0 % nameLimit + nameLimit * (N % placesLimit) → FieldsEnd c p G g w M (n - 1) a r → FieldsEnd c p F g w N n at r
       unfolding FieldsEnd FieldHeader TermEnds Kept initsBy fieldsWell
       fields-more a M r G l b u i v m j xs ns s t = go n z t j
         where
@@ -126,8 +127,8 @@ module _ (c : ℕ) (p : Value → Bool) (F : List ℕ) (g : ℕ) (w : List ℕ) 
               → r ≡ endOf (fieldsWell c p xs ns) (pair (Inits.field f) (parse w (at + 1)) (λ i. parseInits (length w) w n i))
           rest n t j f d k =
               let q = holding _ (fieldAt (getD w at 0)) f (field-word (getD w at 0)) d in
-              let y : getD w at 0 % 128 ≡ f = omega (arith, q) in
-              let x : Met M n (f ∷ ns) = rw (m ∙ ap (λ k. k + 128 * (N % 2097152)) y) (met-noted c N n f ns b k t) in
+              let y : getD w at 0 % nameLimit ≡ f = omega (arith, q) in
+              let x : Met M n (f ∷ ns) = rw (m ∙ ap (λ k. k + nameLimit * (N % placesLimit)) y) (met-noted c N n f ns b k t) in
               j xs (f ∷ ns) (rw v s) x
               ∙ rw (i xs s)
               (ends-pair (Inits.field f) (fieldsWell c p xs ns) (wellFormed c p xs) (fieldsWell c p xs (f ∷ ns)) (parse w (at + 1)) (λ i. parseInits (length w) w n i)
@@ -170,7 +171,7 @@ module _ (c : ℕ) (p : Value → Bool) (F : List ℕ) (g : ℕ) (w : List ℕ) 
           go (suc n) z t =
               headed-none headed-method (methodHead c ns) (methodsWell c p xs ns) (parse w (at + 1)) (λ i. parseMethods (length w) w n i) (methodAt (getD w at 0)) (sym (e (suc n) ns (omega arith) t) ∙ u) (λ q d ms k. rw k)
 
-      pub methods-more : (a M r : ℕ) (G : List ℕ) → length w ≤ 1536 → c ≤ 64 → o ≡ true → TermEnds c p (bound F g (getD w at 0 / 512)) g w (at + 1) a → Kept F G → M ≡ getD w at 0 % 128 + 128 * (N % 2097152)
+      pub methods-more : (a M r : ℕ) (G : List ℕ) → length w ≤ bodiesSize → c ≤ 64 → o ≡ true → TermEnds c p (bound F g (getD w at 0 / taggedLimit)) g w (at + 1) a → Kept F G → M ≡ getD w at 0 % nameLimit + nameLimit * (N % placesLimit)
           → MethodsEnd c p G g w M (n - 1) a r → MethodsEnd c p F g w N n at r
       unfolding MethodsEnd MethodHeader TermEnds Kept methodsBy methodsWell methodHead
       methods-more a M r G l b u i v m j xs ns s t = go n z t j
@@ -180,7 +181,7 @@ module _ (c : ℕ) (p : Value → Bool) (F : List ℕ) (g : ℕ) (w : List ℕ) 
           rest n t j q f k =
               let d = holding _ (methodAt (getD w at 0)) q (method-bound F g xs s (getD w at 0)) f in
               let y = and₂ (fresh c ns (q .0)) (parameters c (q .1)) k .0 in
-              let x : Met M n (q .0 ∷ ns) = rw (m ∙ ap (λ k. k + 128 * (N % 2097152)) (sym (d .0))) (met-noted c N n (q .0) ns b y t) in
+              let x : Met M n (q .0 ∷ ns) = rw (m ∙ ap (λ k. k + nameLimit * (N % placesLimit)) (sym (d .0))) (met-noted c N n (q .0) ns b y t) in
               j xs (q .0 ∷ ns) (rw v s) x
               ∙ rw (i (q .1 ++ xs) (d .2))
               (ends-pair (headed-method q) (methodsWell c p xs ns) (wellFormed c p (q .1 ++ xs)) (methodsWell c p xs (q .0 ∷ ns)) (parse w (at + 1)) (λ i. parseMethods (length w) w n i)

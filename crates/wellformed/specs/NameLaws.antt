@@ -12,22 +12,23 @@ use lib.ListN.{length}
 use Rattle.atlite.specs.Base.{if_then_else_, member}
 use Rattle.atlite.specs.Valid.{isName, isVariable}
 use Rattle.atlite.specs.Facts.{and₂}
+use Rattle.layout.specs.Numbers.{nameLimit, noName, pairLimit, placesLimit}
 use Rattle.layout.specs.Pack.{names}
 use Rattle.layout.specs.PackLaws.{pack-low, pack-high, Each}
 use Rattle.wellformed.specs.Ends.{fresh, Met, Fresh}
 
 -- ---- in range
-pub name-below : (c x : ℕ) → c ≤ 64 → isName c x ≡ true → x < 127
+pub name-below : (c x : ℕ) → c ≤ 64 → isName c x ≡ true → x < noName
 unfolding isName
 name-below c x l e = omega (arith, ltb-true x (8 + c) (and₂ (leb 7 x) (ltb x (8 + c)) e .1))
 
-pub variable-below : (c x : ℕ) → c ≤ 64 → isVariable c x ≡ true → x < 127
+pub variable-below : (c x : ℕ) → c ≤ 64 → isVariable c x ≡ true → x < noName
 unfolding isVariable
 variable-below c x l e = omega (arith, ltb-true x (8 + c) (and₂ (ltb 0 x) (ltb x (8 + c)) e .1))
 
 -- ---- names before others
 abbrev freshIn : ℕ → ℕ → Bool
-freshIn N x = cond (eqb x (N % 128)) false (cond (eqb x (N / 128 % 128)) false (cond (eqb x (N / 16384 % 128)) false true))
+freshIn N x = cond (eqb x (N % nameLimit)) false (cond (eqb x (N / nameLimit % nameLimit)) false (cond (eqb x (N / pairLimit % nameLimit)) false true))
 
 none-of : (a b d : Bool) → cond a false (cond b false (cond d false true)) ≡ not (if a then true else (if b then true else (if d then true else false)))
 unfolding if_then_else_
@@ -36,19 +37,19 @@ none-of false true d = refl
 none-of false false true = refl
 none-of false false false = refl
 
-module _ (x a b d : ℕ) (ha : a < 127) (hb : b < 127) (hd : d < 127) where
-  three-names : freshIn (a + 128 * (b + 128 * (d + 128 * 0))) x ≡ not (if eqb x a then true else (if eqb x b then true else (if eqb x d then true else false)))
+module _ (x a b d : ℕ) (ha : a < noName) (hb : b < noName) (hd : d < noName) where
+  three-names : freshIn (a + nameLimit * (b + nameLimit * (d + nameLimit * 0))) x ≡ not (if eqb x a then true else (if eqb x b then true else (if eqb x d then true else false)))
   three-names =
-      let m = b + 128 * (d + 128 * 0) in
-      let i : (a + 128 * m) % 128 ≡ a = pack-low 128 a m (omega arith) in
-      let q : (a + 128 * m) / 128 ≡ m = pack-high 128 a m (omega arith) in
-      let j : (a + 128 * m) / 128 % 128 ≡ b = ap (λ k. k % 128) q ∙ pack-low 128 b (d + 128 * 0) (omega arith) in
-      let u : (a + 128 * m) / 128 / 128 ≡ d + 128 * 0 = ap (λ k. k / 128) q ∙ pack-high 128 b (d + 128 * 0) (omega arith) in
-      let v : (a + 128 * m) / 16384 ≡ (a + 128 * m) / 128 / 128 = sym (div-div-eq-div-mul (a + 128 * m) 128 128) in
-      let k : (a + 128 * m) / 16384 % 128 ≡ d = ap (λ k. k % 128) (v ∙ u) ∙ pack-low 128 d 0 (omega arith) in
+      let m = b + nameLimit * (d + nameLimit * 0) in
+      let i : (a + nameLimit * m) % nameLimit ≡ a = pack-low nameLimit a m (omega arith) in
+      let q : (a + nameLimit * m) / nameLimit ≡ m = pack-high nameLimit a m (omega arith) in
+      let j : (a + nameLimit * m) / nameLimit % nameLimit ≡ b = ap (λ k. k % nameLimit) q ∙ pack-low nameLimit b (d + nameLimit * 0) (omega arith) in
+      let u : (a + nameLimit * m) / nameLimit / nameLimit ≡ d + nameLimit * 0 = ap (λ k. k / nameLimit) q ∙ pack-high nameLimit b (d + nameLimit * 0) (omega arith) in
+      let v : (a + nameLimit * m) / pairLimit ≡ (a + nameLimit * m) / nameLimit / nameLimit = sym (div-div-eq-div-mul (a + nameLimit * m) nameLimit nameLimit) in
+      let k : (a + nameLimit * m) / pairLimit % nameLimit ≡ d = ap (λ k. k % nameLimit) (v ∙ u) ∙ pack-low nameLimit d 0 (omega arith) in
       rw (i, j, k) (none-of (eqb x a) (eqb x b) (eqb x d))
 
-fresh-names : (x : ℕ) (ns : List ℕ) → 0 < x → length ns ≤ 3 → Each (λ y. (0 < y) × (y < 127)) ns → freshIn (names ns) x ≡ not (member x ns)
+fresh-names : (x : ℕ) (ns : List ℕ) → 0 < x → length ns ≤ 3 → Each (λ y. (0 < y) × (y < noName)) ns → freshIn (names ns) x ≡ not (member x ns)
 unfolding names member if_then_else_
 fresh-names x [] z l h = rw (ne-eqb x 0 (λ e. omega arith))
 fresh-names x (a ∷ []) z l h = three-names x a 0 0 (h .0 .1) (omega arith) (omega arith) ∙ rw (ne-eqb x 0 (λ e. omega arith))
@@ -71,22 +72,22 @@ module _ (c x N : ℕ) (o : Bool) (e : o ≡ isName c x) where
         let d : freshIn (names ns) x ≡ r = ap (λ k. freshIn k x) (sym (m .is)) ∙ i in
         rw (v, ← k, d)
 
-    pub fresh-first : x ≡ N % 128 → Fresh c N x false
-    fresh-first i = by-names false (rw (eq-eqb x (N % 128) i))
+    pub fresh-first : x ≡ N % nameLimit → Fresh c N x false
+    fresh-first i = by-names false (rw (eq-eqb x (N % nameLimit) i))
 
-    module _ (a : x ≡ N % 128 → ⊥) where
-      pub fresh-second : x ≡ N / 128 % 128 → Fresh c N x false
-      fresh-second i = by-names false (rw (ne-eqb x (N % 128) a, eq-eqb x (N / 128 % 128) i))
+    module _ (a : x ≡ N % nameLimit → ⊥) where
+      pub fresh-second : x ≡ N / nameLimit % nameLimit → Fresh c N x false
+      fresh-second i = by-names false (rw (ne-eqb x (N % nameLimit) a, eq-eqb x (N / nameLimit % nameLimit) i))
 
-      module _ (b : x ≡ N / 128 % 128 → ⊥) where
-        pub fresh-third : x ≡ N / 16384 % 128 → Fresh c N x false
-        fresh-third i = by-names false (rw (ne-eqb x (N % 128) a, ne-eqb x (N / 128 % 128) b, eq-eqb x (N / 16384 % 128) i))
+      module _ (b : x ≡ N / nameLimit % nameLimit → ⊥) where
+        pub fresh-third : x ≡ N / pairLimit % nameLimit → Fresh c N x false
+        fresh-third i = by-names false (rw (ne-eqb x (N % nameLimit) a, ne-eqb x (N / nameLimit % nameLimit) b, eq-eqb x (N / pairLimit % nameLimit) i))
 
-        pub fresh-yes : (x ≡ N / 16384 % 128 → ⊥) → Fresh c N x true
-        fresh-yes d = by-names true (rw (ne-eqb x (N % 128) a, ne-eqb x (N / 128 % 128) b, ne-eqb x (N / 16384 % 128) d))
+        pub fresh-yes : (x ≡ N / pairLimit % nameLimit → ⊥) → Fresh c N x true
+        fresh-yes d = by-names true (rw (ne-eqb x (N % nameLimit) a, ne-eqb x (N / nameLimit % nameLimit) b, ne-eqb x (N / pairLimit % nameLimit) d))
 
 -- one name more
-few-small : (ns : List ℕ) → length ns ≤ 3 → Each (λ y. (0 < y) × (y < 127)) ns → names ns < 2097152
+few-small : (ns : List ℕ) → length ns ≤ 3 → Each (λ y. (0 < y) × (y < noName)) ns → names ns < placesLimit
 unfolding names
 few-small [] l h = omega arith
 few-small (a ∷ []) l h = omega (arith, h .0)
@@ -94,7 +95,7 @@ few-small (a ∷ b ∷ []) l h = omega (arith, h .0, h .1 .0)
 few-small (a ∷ b ∷ d ∷ []) l h = omega (arith, h .0, h .1 .0, h .1 .1 .0)
 few-small (a ∷ b ∷ d ∷ u ∷ ns) l h = absurd (omega arith)
 
-pub met-noted : (c N n x : ℕ) (ns : List ℕ) → c ≤ 64 → fresh c ns x ≡ true → Met N (suc n) ns → Met (x + 128 * (N % 2097152)) n (x ∷ ns)
+pub met-noted : (c N n x : ℕ) (ns : List ℕ) → c ≤ 64 → fresh c ns x ≡ true → Met N (suc n) ns → Met (x + nameLimit * (N % placesLimit)) n (x ∷ ns)
 unfolding names fresh isName
 met-noted c N n x ns l e m =
     let v = and₂ (isName c x) (not (member x ns)) e .0 in
@@ -102,8 +103,8 @@ met-noted c N n x ns l e m =
     let a = leb-true 7 x (k .0) in
     let b = ltb-true x (8 + c) (k .1) in
     let s = few-small ns (omega (arith, m .few)) (m .each) in
-    let d : N % 2097152 ≡ names ns = omega (arith, m .is) in
-    record { is = ap (λ k. x + 128 * k) d; few = omega (arith, m .few); each = ((omega arith, omega arith), m .each) }
+    let d : N % placesLimit ≡ names ns = omega (arith, m .is) in
+    record { is = ap (λ k. x + nameLimit * k) d; few = omega (arith, m .few); each = ((omega arith, omega arith), m .each) }
 
 pub met-none : (n : ℕ) → n ≤ 4 → Met 0 n []
 unfolding names

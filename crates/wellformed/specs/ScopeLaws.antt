@@ -1,5 +1,5 @@
 -- Scopes as levels: the empty one, one name more, three names more and back, and what the functions over levels answer. Assumes nothing.
-use Prim.Native.Nat.{ℕ, _+_, _/_, _%_, _≤_, _<_}
+use Prim.Native.Nat.{ℕ, _+_, _*_, _/_, _%_, _≤_, _<_}
 use mathlib.Core.Path.{_≡_, refl, sym, ap, _∙_}
 use mathlib.Core.Bool.{Bool, true, false}
 use mathlib.Core.List.{List, [], _∷_, _++_}
@@ -14,6 +14,7 @@ use Rattle.atlite.specs.Base.{if_then_else_, member}
 use Rattle.atlite.specs.Term.{Kind, seen}
 use Rattle.atlite.specs.ValidTest.{held}
 use Rattle.atlite.specs.Facts.{eqb-same}
+use Rattle.layout.specs.Numbers.{payload, nameLimit, noName, tagLimit, taggedLimit, thirdPlace, pairLimit, numberLimit}
 use Rattle.layout.specs.Terms.{kindNumber}
 use Rattle.layout.specs.Parse.{given, placeForms, placesIn, paramsAt, named, methodAt}
 use Rattle.layout.specs.ParseWords.{along-getD, Holding, under}
@@ -22,16 +23,16 @@ use Rattle.wellformed.specs.Words.{holds}
 use Rattle.wellformed.specs.Ends.{Scope, Sees, bound, Bound, Unbound, Opens, Refers}
 
 -- ---- nothing is bound
-zeros-low : (x : ℕ) (b : Bool) → ltb x 128 ≡ b → _≡_ {A = ℕ} (getD (replicate 128 0) x 0) 0
-zeros-low x true e = getD-replicate 128 x 0 0 (ltb-true x 128 e)
-zeros-low x false e = List·getD-eq-default (replicate 128 0) 0 (ltb-false x 128 e)
+zeros-low : (x : ℕ) (b : Bool) → ltb x nameLimit ≡ b → _≡_ {A = ℕ} (getD (replicate nameLimit 0) x 0) 0
+zeros-low x true e = getD-replicate nameLimit x 0 0 (ltb-true x nameLimit e)
+zeros-low x false e = List·getD-eq-default (replicate nameLimit 0) 0 (ltb-false x nameLimit e)
 
-pub scope-none : Scope (replicate 128 0) 1 []
+pub scope-none : Scope (replicate nameLimit 0) 1 []
 unfolding member
 scope-none = record {
   size = refl;
-  low = λ x. omega (arith, zeros-low x (ltb x 128) refl);
-  right = λ x h. ap (λ k. eqb k 1) (zeros-low x (ltb x 128) refl);
+  low = λ x. omega (arith, zeros-low x (ltb x nameLimit) refl);
+  right = λ x h. ap (λ k. eqb k 1) (zeros-low x (ltb x nameLimit) refl);
 }
 
 -- one level more hides all
@@ -45,13 +46,13 @@ scope-hidden F g xs s = record {
 
 -- ---- one name
 module _ (F : List ℕ) (g : ℕ) (xs : List ℕ) (s : Scope F g xs) where
-  set-low : (x y : ℕ) → x < 128 → (b : Bool) → eqb y x ≡ b → getD (set F x g) y 0 ≤ g
+  set-low : (x y : ℕ) → x < nameLimit → (b : Bool) → eqb y x ≡ b → getD (set F x g) y 0 ≤ g
   set-low x y l true e =
       let i : x < length F = omega (arith, s .size) in
       rw (eqb-true y x e, getD-set-same F x g 0 i) (omega arith)
   set-low x y l false e = rw (getD-set-other F x y g 0 (eqb-false y x e)) (s .low y)
 
-  pub scope-bind : (x : ℕ) → x < 127 → Scope (set F x g) g (x ∷ xs)
+  pub scope-bind : (x : ℕ) → x < noName → Scope (set F x g) g (x ∷ xs)
   unfolding member if_then_else_
   scope-bind x l = record {
     size = length-set F x g ∙ s .size;
@@ -59,14 +60,14 @@ module _ (F : List ℕ) (g : ℕ) (xs : List ℕ) (s : Scope F g xs) where
     right = λ y h. go y h (eqb y x) refl;
   }
     where
-      go : (y : ℕ) → y < 127 → (b : Bool) → eqb y x ≡ b → eqb (getD (set F x g) y 0) g ≡ (if b then true else member y xs)
+      go : (y : ℕ) → y < noName → (b : Bool) → eqb y x ≡ b → eqb (getD (set F x g) y 0) g ≡ (if b then true else member y xs)
       go y h true e =
           let i : x < length F = omega (arith, s .size) in
           rw (eqb-true y x e, getD-set-same F x g 0 i) (eqb-same g)
       go y h false e = rw (getD-set-other F x y g 0 (eqb-false y x e)) (s .right y h)
 
   -- the place that is no word's
-  pub scope-past : (x : ℕ) → x ≡ 127 → Scope (set F x g) g xs
+  pub scope-past : (x : ℕ) → x ≡ noName → Scope (set F x g) g xs
   scope-past x e = record {
     size = length-set F x g ∙ s .size;
     low = λ y. set-low x y (omega arith) (eqb y x) refl;
@@ -74,43 +75,43 @@ module _ (F : List ℕ) (g : ℕ) (xs : List ℕ) (s : Scope F g xs) where
   }
 
 module _ (F : List ℕ) (g x : ℕ) where
-  pub sees-bound : x < 127 → getD F x 0 ≡ g → Sees F g x true
+  pub sees-bound : x < noName → getD F x 0 ≡ g → Sees F g x true
   unfolding Sees
-  sees-bound l e xs s = sym (rw (lt-ltb x 127 l) (sym (s .right x l) ∙ rw e (eqb-same g)))
+  sees-bound l e xs s = sym (rw (lt-ltb x noName l) (sym (s .right x l) ∙ rw e (eqb-same g)))
 
-  pub sees-unbound : x < 127 → (getD F x 0 ≡ g → ⊥) → Sees F g x false
+  pub sees-unbound : x < noName → (getD F x 0 ≡ g → ⊥) → Sees F g x false
   unfolding Sees
-  sees-unbound l e xs s = sym (rw (lt-ltb x 127 l) (sym (s .right x l) ∙ ne-eqb (getD F x 0) g e))
+  sees-unbound l e xs s = sym (rw (lt-ltb x noName l) (sym (s .right x l) ∙ ne-eqb (getD F x 0) g e))
 
-  pub sees-none : 127 ≤ x → Sees F g x false
+  pub sees-none : noName ≤ x → Sees F g x false
   unfolding Sees
-  sees-none l xs s = rw (le-ltb x 127 l)
+  sees-none l xs s = rw (le-ltb x noName l)
 
 -- ---- three places
 module _ (F : List ℕ) (g : ℕ) (xs : List ℕ) (s : Scope F g xs) (n : ℕ) where
   abbrev x : ℕ
-  x = n % 128
+  x = n % nameLimit
 
   abbrev y : ℕ
-  y = n / 128 % 128
+  y = n / nameLimit % nameLimit
 
   abbrev z : ℕ
-  z = n / 16384 % 128
+  z = n / pairLimit % nameLimit
 
-  one-bound : x < 127 → y ≡ 127 → z ≡ 127 → Scope (bound F g n) g (x ∷ xs)
+  one-bound : x < noName → y ≡ noName → z ≡ noName → Scope (bound F g n) g (x ∷ xs)
   unfolding bound
   one-bound i j k = scope-bind _ g xs (scope-past _ g xs (scope-past F g xs s z k) y j) x i
 
-  pub two-bound : x < 127 → y < 127 → z ≡ 127 → Scope (bound F g n) g (x ∷ y ∷ xs)
+  pub two-bound : x < noName → y < noName → z ≡ noName → Scope (bound F g n) g (x ∷ y ∷ xs)
   unfolding bound
   two-bound i j k = scope-bind _ g _ (scope-bind _ g xs (scope-past F g xs s z k) y j) x i
 
   -- where the rest stands under a test
-  if-lt : (m : ℕ) (o : Option (List ℕ)) → (m < 127 → Holding (λ ys. Scope (bound F g n) g (ys ++ xs)) o) → Holding (λ ys. Scope (bound F g n) g (ys ++ xs)) (given (ltb m 127) o)
-  if-lt m o h = under _ (ltb m 127) o (λ t. h (ltb-true m 127 t))
+  if-lt : (m : ℕ) (o : Option (List ℕ)) → (m < noName → Holding (λ ys. Scope (bound F g n) g (ys ++ xs)) o) → Holding (λ ys. Scope (bound F g n) g (ys ++ xs)) (given (ltb m noName) o)
+  if-lt m o h = under _ (ltb m noName) o (λ t. h (ltb-true m noName t))
 
-  if-eq : (m : ℕ) (o : Option (List ℕ)) → (m ≡ 127 → Holding (λ ys. Scope (bound F g n) g (ys ++ xs)) o) → Holding (λ ys. Scope (bound F g n) g (ys ++ xs)) (given (eqb m 127) o)
-  if-eq m o h = under _ (eqb m 127) o (λ t. h (eqb-true m 127 t))
+  if-eq : (m : ℕ) (o : Option (List ℕ)) → (m ≡ noName → Holding (λ ys. Scope (bound F g n) g (ys ++ xs)) o) → Holding (λ ys. Scope (bound F g n) g (ys ++ xs)) (given (eqb m noName) o)
+  if-eq m o h = under _ (eqb m noName) o (λ t. h (eqb-true m noName t))
 
   places-bound : (k : ℕ) → Holding (λ ys. Scope (bound F g n) g (ys ++ xs)) (placesIn k x y z)
   unfolding placesIn bound
@@ -130,25 +131,25 @@ module _ (F : List ℕ) (g : ℕ) (xs : List ℕ) (s : Scope F g xs) (n : ℕ) w
 -- the name and the parameters of a method's header
 module _ (F : List ℕ) (g : ℕ) (xs : List ℕ) (s : Scope F g xs) (h : ℕ) where
   abbrev MethodBound : ℕ × List ℕ → Type 0
-  MethodBound q = (q .0 ≡ h % 128) × (q .0 < 127) × Scope (bound F g (h / 512)) g (q .1 ++ xs)
+  MethodBound q = (q .0 ≡ h % nameLimit) × (q .0 < noName) × Scope (bound F g (h / taggedLimit)) g (q .1 ++ xs)
 
-  named-bound : (o : Option (List ℕ)) → h % 128 < 127 → Holding (λ ys. Scope (bound F g (h / 512)) g (ys ++ xs)) o → Holding MethodBound (named (h % 128) o)
+  named-bound : (o : Option (List ℕ)) → h % nameLimit < noName → Holding (λ ys. Scope (bound F g (h / taggedLimit)) g (ys ++ xs)) o → Holding MethodBound (named (h % nameLimit) o)
   named-bound none l e = tt
   named-bound (some ys) l e = (refl, l, e)
 
   pub method-bound : Holding MethodBound (methodAt h)
   unfolding methodAt paramsAt
   method-bound =
-      let a : h / 512 / 128 ≡ h / 65536 = omega arith in
-      let b : h / 512 / 16384 ≡ h / 8388608 = omega arith in
-      under _ (eqb (h / 1073741824) 3) _ (λ e. under _ (ltb (h % 128) 127) (named (h % 128) (paramsAt h)) (λ l.
-      named-bound (paramsAt h) (ltb-true (h % 128) 127 l) (rw (a, b) at (places-bound F g xs s (h / 512) (h / 128 % 4)))))
+      let a : h / taggedLimit / nameLimit ≡ h / numberLimit = omega arith in
+      let b : h / taggedLimit / pairLimit ≡ h / thirdPlace = omega arith in
+      under _ (eqb (h / (64 * payload)) 3) _ (λ e. under _ (ltb (h % nameLimit) noName) (named (h % nameLimit) (paramsAt h)) (λ l.
+      named-bound (paramsAt h) (ltb-true (h % nameLimit) noName l) (rw (a, b) at (places-bound F g xs s (h / taggedLimit) (h / nameLimit % tagLimit)))))
 
 -- ---- and back
-pub all-bound : (F : List ℕ) (g n : ℕ) (G H I : List ℕ) (x y z : ℕ) → Swapped F (n / 16384 % 128) g G z → Swapped G (n / 128 % 128) g H y → Swapped H (n % 128) g I x → Bound F g n I x y z
+pub all-bound : (F : List ℕ) (g n : ℕ) (G H I : List ℕ) (x y z : ℕ) → Swapped F (n / pairLimit % nameLimit) g G z → Swapped G (n / nameLimit % nameLimit) g H y → Swapped H (n % nameLimit) g I x → Bound F g n I x y z
 unfolding bound
 all-bound F g n G H I x y z p q r =
-    let e : H ≡ set (set F (n / 16384 % 128) g) (n / 128 % 128) g = q .new ∙ rw (p .new) in
+    let e : H ≡ set (set F (n / pairLimit % nameLimit) g) (n / nameLimit % nameLimit) g = q .new ∙ rw (p .new) in
     record {
       new = r .new ∙ rw e;
       third = p .old;
@@ -156,17 +157,17 @@ all-bound F g n G H I x y z p q r =
       first = r .old ∙ rw e;
     }
 
-pub all-unbound : (F : List ℕ) (n : ℕ) (G H I : List ℕ) (x y z a b c : ℕ) → Swapped F (n % 128) x G a → Swapped G (n / 128 % 128) y H b → Swapped H (n / 16384 % 128) z I c → Unbound F n I x y z
+pub all-unbound : (F : List ℕ) (n : ℕ) (G H I : List ℕ) (x y z a b c : ℕ) → Swapped F (n % nameLimit) x G a → Swapped G (n / nameLimit % nameLimit) y H b → Swapped H (n / pairLimit % nameLimit) z I c → Unbound F n I x y z
 all-unbound F n G H I x y z a b c p q r = record { new = r .new ∙ rw (q .new, p .new) }
 
 pub inside-kept : (F : List ℕ) (g n : ℕ) (G H I : List ℕ) (x y z : ℕ) → Bound F g n G x y z → Kept G H → Unbound H n I x y z → Kept F I
 unfolding bound Kept
 inside-kept F g n G H I x y z p e q =
-    let i : ℕ = n % 128 in
-    let j : ℕ = n / 128 % 128 in
-    let k : ℕ = n / 16384 % 128 in
+    let i : ℕ = n % nameLimit in
+    let j : ℕ = n / nameLimit % nameLimit in
+    let k : ℕ = n / pairLimit % nameLimit in
     q .new
-    ∙ ap (λ K. set (set (set K (n % 128) x) (n / 128 % 128) y) (n / 16384 % 128) z) (e ∙ p .new)
+    ∙ ap (λ K. set (set (set K (n % nameLimit) x) (n / nameLimit % nameLimit) y) (n / pairLimit % nameLimit) z) (e ∙ p .new)
     ∙ rw (p .first, p .second, p .third)
     (ap (λ K. set (set K j (getD (set F k g) j 0)) k (getD F k 0)) (put-back (set (set F k g) j g) i g)
     ∙ ap (λ K. set K k (getD F k 0)) (put-back (set F k g) j g)
@@ -186,32 +187,32 @@ kept-after F G H e f = f ∙ e
 
 -- ---- the parts of a literal
 module _ (g h : ℕ) where
-  pub opens-object : h / 16777216 ≡ 15 → Opens g h g
+  pub opens-object : h / payload ≡ 15 → Opens g h g
   unfolding kindNumber seen
   opens-object k = record { near = omega arith; inner = go }
     where
-      go : (t : Kind) → h / 16777216 ≡ kindNumber t → (F xs : List ℕ) → Scope F g xs → Scope F g (seen t xs)
+      go : (t : Kind) → h / payload ≡ kindNumber t → (F xs : List ℕ) → Scope F g xs → Scope F g (seen t xs)
       go Kind.object i F xs s = s
       go Kind.isolate i F xs s = absurd (omega arith)
       go Kind.actor i F xs s = absurd (omega arith)
 
-  pub opens-alone : (h / 16777216 ≡ 15 → ⊥) → Opens g h (g + 1)
+  pub opens-alone : (h / payload ≡ 15 → ⊥) → Opens g h (g + 1)
   unfolding kindNumber seen
   opens-alone k = record { near = omega arith; inner = go }
     where
-      go : (t : Kind) → h / 16777216 ≡ kindNumber t → (F xs : List ℕ) → Scope F g xs → Scope F (g + 1) (seen t xs)
+      go : (t : Kind) → h / payload ≡ kindNumber t → (F xs : List ℕ) → Scope F g xs → Scope F (g + 1) (seen t xs)
       go Kind.object i F xs s = absurd (k i)
       go Kind.isolate i F xs s = scope-hidden F g xs s
       go Kind.actor i F xs s = scope-hidden F g xs s
 
 module _ (refs : Bool) (h : ℕ) where
-  pub refers-object : h / 16777216 ≤ 15 → Refers refs h refs
+  pub refers-object : h / payload ≤ 15 → Refers refs h refs
   unfolding Refers kindNumber held
   refers-object k Kind.object i K a = refl
   refers-object k Kind.isolate i K a = absurd (omega arith)
   refers-object k Kind.actor i K a = absurd (omega arith)
 
-  pub refers-alone : 15 < h / 16777216 → Refers refs h false
+  pub refers-alone : 15 < h / payload → Refers refs h false
   unfolding Refers kindNumber held holds
   refers-alone k Kind.object i K a = absurd (omega arith)
   refers-alone k Kind.isolate i K a = refl

@@ -7,6 +7,7 @@ use lib.ListN.{length}
 use Rattle.atlite.specs.Term.{Value, Name, Op, Term, op, Terms, nil, cons, countTerms}
 use Rattle.atlite.specs.Valid.{operable}
 use Rattle.atlite.specs.ValidTest.{wellFormed, wellFormedAll}
+use Rattle.layout.specs.Numbers.{payload}
 use Rattle.layout.specs.Parse.{Got, none, got, pair, Head, leaf, unary, binary, many, only, headIn, formed, parseTerms}
 use Rattle.layout.specs.ParseSound.{terms-sound}
 use Rattle.layout.specs.ParseHeads.{head-kind}
@@ -61,5 +62,5 @@ module _ (c : ℕ) (p : Value → Bool) (xs w : List ℕ) (at : ℕ) where
     many-none h = ends-on-none (op o) (wellFormed c p xs) (parseTerms (length w) w n at) (λ es m y. rw (counted es m y, h))
 
 -- by the kind that was found
-pub by-kind : (c : ℕ) (p : Value → Bool) (xs w : List ℕ) (h at k r : ℕ) → h / 16777216 ≡ k → r ≡ formEnd c p xs w at (headIn k (h % 16777216)) → r ≡ wordEnd c p xs w h at
+pub by-kind : (c : ℕ) (p : Value → Bool) (xs w : List ℕ) (h at k r : ℕ) → h / payload ≡ k → r ≡ formEnd c p xs w at (headIn k (h % payload)) → r ≡ wordEnd c p xs w h at
 by-kind c p xs w h at k r e i = rw (head-kind h k e) i

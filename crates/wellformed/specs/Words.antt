@@ -7,6 +7,7 @@ use mathlib.Core.Option.{Option, none, some}
 use lib.Dec.{eqb}
 use Rattle.atlite.specs.Term.{Value}
 use Rattle.atlite.specs.Valid.{sendable, callable, unreferring}
+use Rattle.layout.specs.Numbers.{nameLimit, tagLimit}
 use Rattle.layout.specs.Parse.{nameOf}
 use Rattle.wellformed.specs.Kinds.{allowed}
 
@@ -22,10 +23,10 @@ holds false K a = unreferring
 
 -- by the payload of a send, and of a call: name 7 bits, tag 2, number of arguments
 unfoldable pub sendIn : ℕ → ℕ → Bool
-sendIn w p = within (λ m. sendable w m (p / 128 / 4)) (nameOf (p / 128 % 4) (p % 128))
+sendIn w p = within (λ m. sendable w m (p / nameLimit / tagLimit)) (nameOf (p / nameLimit % tagLimit) (p % nameLimit))
 
 unfoldable pub callIn : ℕ → ℕ → Bool
-callIn w p = within (λ m. callable w m (p / 128 / 4)) (nameOf (p / 128 % 4) (p % 128))
+callIn w p = within (λ m. callable w m (p / nameLimit / tagLimit)) (nameOf (p / nameLimit % tagLimit) (p % nameLimit))
 
 -- an empty place and one argument
 unfoldable pub lone : ℕ → ℕ → Bool

@@ -7,12 +7,19 @@ ghost use mathlib.Core.Bool.{_&&_};
 ghost use Prim.Native.Nat.{_+_, _*_, _≤_, _<_, _/_, _%_};
 ghost use lib.Dec.{leb};
 ghost use Rattle.atlite.specs.Valid.{parameters};
+ghost use Rattle.layout.specs.Numbers.{nameLimit, placesLimit};
 ghost use Rattle.layout.specs.Parse.{paramsAt};
 ghost use Rattle.wellformed.specs.Words.{within};
 ghost use Rattle.wellformed.specs.Ends.{Fresh, FieldHeader, two, third, empty, MethodHeader, Arguments};
-use crate::NO_NAME;
-use crate::PAYLOAD;
 use crate::word;
+use layout::NAME_LIMIT;
+use layout::NO_NAME;
+use layout::PAIR_LIMIT;
+use layout::PAYLOAD;
+use layout::PLACES_LIMIT;
+use layout::SECOND_PLACE;
+use layout::TAGGED_LIMIT;
+use layout::THIRD_PLACE;
 
 // A name that is none of the last three in `names`.
 fn is_fresh(x: u32, names: u32, words: u32) -> bool
@@ -20,13 +27,13 @@ fn is_fresh(x: u32, names: u32, words: u32) -> bool
     ensures { λ r. ⌜ Fresh words names x r ⌝ }
 {
     if word::is_name(x, words) {
-        if x == names % 128 {
+        if x == names % NAME_LIMIT {
             return false;
         }
-        if x == names / 128 % 128 {
+        if x == names / NAME_LIMIT % NAME_LIMIT {
             return false;
         }
-        if x == names / 16384 % 128 {
+        if x == names / PAIR_LIMIT % NAME_LIMIT {
             return false;
         }
         return true;
@@ -36,10 +43,10 @@ fn is_fresh(x: u32, names: u32, words: u32) -> bool
 
 // The names with one more.
 pub fn noted(names: u32, x: u32) -> u32
-    requires { ⌜ x < 128 ⌝ }
-    ensures { λ r. ⌜ r ≡ x + 128 * (names % 2097152) ⌝ }
+    requires { ⌜ x < nameLimit ⌝ }
+    ensures { λ r. ⌜ r ≡ x + nameLimit * (names % placesLimit) ⌝ }
 {
-    x + 128 * (names % 2097152)
+    x + NAME_LIMIT * (names % PLACES_LIMIT)
 }
 
 // Whether the word `h` is the header of a field with a new name.
@@ -105,10 +112,10 @@ fn has_parameters(h: u32, words: u32) -> bool
     requires { ⌜ words ≤ 64 ⌝ }
     ensures { λ r. ⌜ r ≡ within (parameters words) (paramsAt h) ⌝ }
 {
-    let x = h / 512 % 128;
-    let y = h / 65536 % 128;
-    let z = h / 8388608 % 128;
-    match h / 128 % 4 {
+    let x = h / TAGGED_LIMIT % NAME_LIMIT;
+    let y = h / SECOND_PLACE % NAME_LIMIT;
+    let z = h / THIRD_PLACE % NAME_LIMIT;
+    match h / NAME_LIMIT % 4 {
         0 => {
             if x == NO_NAME {
                 return are_empty(y, z);
@@ -142,7 +149,7 @@ pub fn method_header(h: u32, names: u32, words: u32) -> bool
     ensures { λ r. ⌜ MethodHeader words names h r ⌝ }
 {
     if h / 1073741824 == 3 {
-        if is_fresh(h % 128, names, words) {
+        if is_fresh(h % NAME_LIMIT, names, words) {
             return has_parameters(h, words);
         }
         return false;
@@ -164,5 +171,5 @@ pub fn is_small(p: u32) -> bool
 pub fn arguments(p: u32) -> usize
     ensures { λ r. ⌜ Arguments p r ⌝ }
 {
-    (1 + p / 128 / 4) as usize
+    (1 + p / NAME_LIMIT / 4) as usize
 }

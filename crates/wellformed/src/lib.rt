@@ -7,23 +7,20 @@ ghost use mathlib.Core.List.{[]};
 ghost use Prim.Native.Nat.{_≤_, _%_};
 ghost use lib.ListN.{length};
 ghost use Rattle.atlite.specs.ValidTest.{wellFormed};
+ghost use Rattle.layout.specs.Numbers.{payload, bodiesSize};
 ghost use Rattle.layout.specs.Parse.{valueAt, parseMethods};
 ghost use Rattle.layout.specs.ParseLaws.{parse};
 ghost use Rattle.wellformed.specs.Kinds.{allowed};
 ghost use Rattle.wellformed.specs.Words.{holds, within, sendIn};
 ghost use Rattle.wellformed.specs.Ends.{endOf, methodsHold};
 use crate::term::Context;
+use layout::NAME_LIMIT;
+use layout::PAYLOAD;
 
 pub mod header;
 pub mod scopes;
 pub mod term;
 pub mod word;
-
-// Where a word's kind stands.
-pub const PAYLOAD: u32 = 16777216;
-
-// What stands in a method's empty places.
-pub const NO_NAME: u32 = 127;
 
 // The answer where no term is, or not one that may be held.
 pub const FAIL: usize = 4096;
@@ -49,12 +46,12 @@ pub fn value(x: u32, kinds: &[u8; 192], actor: u32, refs: bool) -> bool
 // Whether the name and the number of arguments in the word `h` of a send are those of a message.
 pub fn message_name(h: u32, words: u32) -> bool
     requires { ⌜ words ≤ 64 ⌝ }
-    ensures { λ r. ⌜ r ≡ sendIn words (h % 16777216) ⌝ }
+    ensures { λ r. ⌜ r ≡ sendIn words (h % payload) ⌝ }
 {
     let p = h % PAYLOAD;
-    let x = p % 128;
-    let n = p / 128 / 4;
-    match p / 128 % 4 {
+    let x = p % NAME_LIMIT;
+    let n = p / NAME_LIMIT / 4;
+    match p / NAME_LIMIT % 4 {
         0 => word::named(x, n, 0, 3, words),
         1 => word::named(x, n, 1, 4, words),
         2 => word::lone(x, n),
@@ -67,7 +64,7 @@ pub fn message_name(h: u32, words: u32) -> bool
 // answered that an isolate's method may use a word bound around the isolate, nor that an isolate's or an actor's literal may refer. What
 // stands behind the expression is not looked at.
 pub fn expression(w: &[u32], kinds: &[u8; 192], actor: u32, words: u32) -> usize
-    requires { ⌜ (length (now w) ≤ 1536) × (words ≤ 64) ⌝ }
+    requires { ⌜ (length (now w) ≤ bodiesSize) × (words ≤ 64) ⌝ }
     ensures { λ r. ⌜ r ≡ endOf (wellFormed words (allowed (now (kinds .entry)) actor) []) (parse (now (w .entry)) 0) ⌝ }
     ensures { λ r. ⌜ r ≤ 4096 ⌝ }
 {
@@ -92,7 +89,7 @@ pub fn methods(
     words: u32,
     refs: bool,
 ) -> usize
-    requires { ⌜ (length (now w) ≤ 1536) × (at ≤ 4096) × (words ≤ 64) ⌝ }
+    requires { ⌜ (length (now w) ≤ bodiesSize) × (at ≤ 4096) × (words ≤ 64) ⌝ }
     ensures { λ r. ⌜ r ≡ endOf (methodsHold words (holds refs (now (kinds .entry)) actor)) (parseMethods (length (now (w .entry))) (now (w .entry)) count at) ⌝ }
     ensures { λ r. ⌜ (at ≤ r) × (r ≤ 4096) ⌝ }
 {

@@ -1,10 +1,13 @@
 // Scopes. For each word stands the level at which it is bound. The level is one more in each literal that hides what is around it, so
 // that what is bound at a lower level is out of scope, and no list of words is kept.
+use layout::NAME_LIMIT;
+use layout::NO_NAME;
+use layout::PAIR_LIMIT;
+use layout::PAYLOAD;
 ghost use Prim.Native.Nat.{_≤_, _<_};
+ghost use Rattle.layout.specs.Numbers.{nameLimit};
 ghost use Rattle.checks.specs.Bound.{Swapped};
 ghost use Rattle.wellformed.specs.Ends.{Sees, Bound, Unbound, Opens, Refers};
-use crate::NO_NAME;
-use crate::PAYLOAD;
 
 // What stood at three places of a scope.
 pub struct Old {
@@ -28,7 +31,7 @@ pub fn sees(scope: &[u16; 128], level: u16, x: u32) -> bool
 
 // Puts `v` for the name `x`, and returns what stood there.
 pub fn swap(scope: &mut [u16; 128], x: usize, v: u16) -> u16
-    requires { ⌜ x < 128 ⌝ }
+    requires { ⌜ x < nameLimit ⌝ }
     ensures { λ r. ⌜ Swapped (now (scope .entry)) x v (now (scope .exit)) r ⌝ }
 {
     let old = scope[x];
@@ -40,9 +43,9 @@ pub fn swap(scope: &mut [u16; 128], x: usize, v: u16) -> u16
 pub fn bind(scope: &mut [u16; 128], level: u16, names: u32) -> Old
     ensures { λ r. ⌜ Bound (now (scope .entry)) level names (now (scope .exit)) (r .x) (r .y) (r .z) ⌝ }
 {
-    let z = swap(scope, (names / 16384 % 128) as usize, level);
-    let y = swap(scope, (names / 128 % 128) as usize, level);
-    let x = swap(scope, (names % 128) as usize, level);
+    let z = swap(scope, (names / PAIR_LIMIT % NAME_LIMIT) as usize, level);
+    let y = swap(scope, (names / NAME_LIMIT % NAME_LIMIT) as usize, level);
+    let x = swap(scope, (names % NAME_LIMIT) as usize, level);
     Old { x, y, z }
 }
 
@@ -50,9 +53,9 @@ pub fn bind(scope: &mut [u16; 128], level: u16, names: u32) -> Old
 pub fn unbind(scope: &mut [u16; 128], names: u32, old: Old)
     ensures { λ r. ⌜ Unbound (now (scope .entry)) names (now (scope .exit)) (old .x) (old .y) (old .z) ⌝ }
 {
-    swap(scope, (names % 128) as usize, old.x);
-    swap(scope, (names / 128 % 128) as usize, old.y);
-    swap(scope, (names / 16384 % 128) as usize, old.z);
+    swap(scope, (names % NAME_LIMIT) as usize, old.x);
+    swap(scope, (names / NAME_LIMIT % NAME_LIMIT) as usize, old.y);
+    swap(scope, (names / PAIR_LIMIT % NAME_LIMIT) as usize, old.z);
 }
 
 // The level of a literal's parts. What is bound outside stays bound only in an object's.

@@ -1,14 +1,19 @@
 // Where terms end. What falls from call to call is what is left of the words.
-ghost use Prim.Native.Nat.{_+_, _≤_, _<_, _/_, _%_};
+ghost use Prim.Native.Nat.{_+_, _*_, _/_, _%_, _≤_, _<_};
 ghost use lib.ListN.{length};
+ghost use Rattle.layout.specs.Numbers.{payload, bodiesSize};
 ghost use Rattle.checks.specs.Bound.{Kept};
 ghost use Rattle.wellformed.specs.Words.{holds};
 ghost use Rattle.wellformed.specs.Ends.{bound, Leaf, Counted, Unlisted, Operands, Closed, TermEnds, FormEnds, LiteralEnds, FieldsEnd, MethodsEnd};
 use crate::FAIL;
-use crate::PAYLOAD;
 use crate::header;
 use crate::scopes;
 use crate::word;
+use layout::NAME_LIMIT;
+use layout::NO_NAME;
+use layout::PAIR_LIMIT;
+use layout::PAYLOAD;
+use layout::TAGGED_LIMIT;
 use layout::kinds as table;
 
 // What holds where a term stands: whose it is, how many words the state has, whether it may refer, and the level of its scope.
@@ -20,14 +25,14 @@ pub struct Context {
 }
 
 // The empty place behind two names of three.
-const AFTER_TWO: u32 = 2080768;
+const AFTER_TWO: u32 = NO_NAME * PAIR_LIMIT;
 
 // Words below this one have nothing behind them.
-const OPERANDS: u32 = 117440512;
+const OPERANDS: u32 = 7 * PAYLOAD;
 
 // Whether the word `h` is a variable in scope, or a value.
 fn leaf(h: u32, scope: &[u16; 128], kinds: &[u8; 192], e: Context) -> bool
-    requires { ⌜ h < 117440512 ⌝ }
+    requires { ⌜ h < 7 * payload ⌝ }
     ensures { λ r. ⌜ Leaf (e .words) (holds (e .refs) (now (kinds .entry)) (e .actor)) (now (scope .entry)) (e .level) h r ⌝ }
 {
     if h / PAYLOAD == 6 {
@@ -48,7 +53,7 @@ fn counted(ok: bool, n: usize) -> usize
 
 // The same for a call or a send: who is asked, and the arguments that are counted in the word.
 fn message_operands(h: u32, words: u32) -> usize
-    requires { ⌜ (117440512 ≤ h) × (words ≤ 64) × Unlisted (h / 16777216) ⌝ }
+    requires { ⌜ (7 * payload ≤ h) × (words ≤ 64) × Unlisted (h / payload) ⌝ }
     ensures { λ r. ⌜ Operands words h r ⌝ }
 {
     let n = header::arguments(h % PAYLOAD);
@@ -61,7 +66,7 @@ fn message_operands(h: u32, words: u32) -> usize
 
 // How many terms stand behind the word `h` of an operator, all in its own scope. 0 says that it is none, or not with this payload.
 fn operands(h: u32, words: u32) -> usize
-    requires { ⌜ (117440512 ≤ h) × (words ≤ 64) ⌝ }
+    requires { ⌜ (7 * payload ≤ h) × (words ≤ 64) ⌝ }
     ensures { λ r. ⌜ Operands words h r ⌝ }
 {
     let k = h / PAYLOAD;
@@ -76,7 +81,7 @@ fn operands(h: u32, words: u32) -> usize
 // The end of the term at `at`. One word a turn, and its operands are among the terms still to come. Only a word that changes the scope is
 // read by a call; where that fails it answers 4096, and the next turn finds no word there.
 pub fn term(w: &[u32], at: usize, scope: &mut [u16; 128], kinds: &[u8; 192], e: Context) -> usize
-    requires { ⌜ (length (now w) ≤ 1536) × (at ≤ 4096) × (e .words ≤ 64) × (e .level ≤ at + 1) ⌝ }
+    requires { ⌜ (length (now w) ≤ bodiesSize) × (at ≤ 4096) × (e .words ≤ 64) × (e .level ≤ at + 1) ⌝ }
     ensures { λ r. ⌜ TermEnds (e .words) (holds (e .refs) (now (kinds .entry)) (e .actor)) (now (scope .entry)) (e .level) (now (w .entry)) at r ⌝ }
     ensures { λ r. ⌜ Kept (now (scope .entry)) (now (scope .exit)) ⌝ }
     ensures { λ r. ⌜ (at ≤ r) × (r ≤ 4096) ⌝ }
@@ -117,9 +122,9 @@ fn form(
     kinds: &[u8; 192],
     e: Context,
 ) -> usize
-    requires { ⌜ (length (now w) ≤ 1536) × (at ≤ 4096) × (e .words ≤ 64) × (e .level ≤ at) ⌝ }
+    requires { ⌜ (length (now w) ≤ bodiesSize) × (at ≤ 4096) × (e .words ≤ 64) × (e .level ≤ at) ⌝ }
     requires { ⌜ Closed (e .words) h ⌝ }
-    ensures { λ r. ⌜ FormEnds (e .words) (holds (e .refs) (now (kinds .entry)) (e .actor)) (now (scope .entry)) (e .level) (now (w .entry)) (h / 16777216) (h % 16777216) at r ⌝ }
+    ensures { λ r. ⌜ FormEnds (e .words) (holds (e .refs) (now (kinds .entry)) (e .actor)) (now (scope .entry)) (e .level) (now (w .entry)) (h / payload) (h % payload) at r ⌝ }
     ensures { λ r. ⌜ Kept (now (scope .entry)) (now (scope .exit)) ⌝ }
     ensures { λ r. ⌜ (at ≤ r) × (r ≤ 4096) ⌝ }
 {
@@ -143,7 +148,7 @@ fn inside(
     kinds: &[u8; 192],
     e: Context,
 ) -> usize
-    requires { ⌜ (length (now w) ≤ 1536) × (at ≤ 4096) × (e .words ≤ 64) × (e .level ≤ at + 1) ⌝ }
+    requires { ⌜ (length (now w) ≤ bodiesSize) × (at ≤ 4096) × (e .words ≤ 64) × (e .level ≤ at + 1) ⌝ }
     ensures { λ r. ⌜ TermEnds (e .words) (holds (e .refs) (now (kinds .entry)) (e .actor)) (bound (now (scope .entry)) (e .level) names) (e .level) (now (w .entry)) at r ⌝ }
     ensures { λ r. ⌜ Kept (now (scope .entry)) (now (scope .exit)) ⌝ }
     ensures { λ r. ⌜ (at ≤ r) × (r ≤ 4096) ⌝ }
@@ -163,7 +168,7 @@ fn let_in(
     kinds: &[u8; 192],
     e: Context,
 ) -> usize
-    requires { ⌜ (length (now w) ≤ 1536) × (at ≤ 4096) × (e .words ≤ 64) × (e .level ≤ at + 1) ⌝ }
+    requires { ⌜ (length (now w) ≤ bodiesSize) × (at ≤ 4096) × (e .words ≤ 64) × (e .level ≤ at + 1) ⌝ }
     ensures { λ r. ⌜ FormEnds (e .words) (holds (e .refs) (now (kinds .entry)) (e .actor)) (now (scope .entry)) (e .level) (now (w .entry)) 11 x at r ⌝ }
     ensures { λ r. ⌜ Kept (now (scope .entry)) (now (scope .exit)) ⌝ }
     ensures { λ r. ⌜ (at ≤ r) × (r ≤ 4096) ⌝ }
@@ -187,12 +192,12 @@ fn future(
     kinds: &[u8; 192],
     e: Context,
 ) -> usize
-    requires { ⌜ (length (now w) ≤ 1536) × (at ≤ 4096) × (e .words ≤ 64) × (e .level ≤ at + 1) × (p < 16777216) ⌝ }
+    requires { ⌜ (length (now w) ≤ bodiesSize) × (at ≤ 4096) × (e .words ≤ 64) × (e .level ≤ at + 1) × (p < payload) ⌝ }
     ensures { λ r. ⌜ FormEnds (e .words) (holds (e .refs) (now (kinds .entry)) (e .actor)) (now (scope .entry)) (e .level) (now (w .entry)) 12 p at r ⌝ }
     ensures { λ r. ⌜ Kept (now (scope .entry)) (now (scope .exit)) ⌝ }
     ensures { λ r. ⌜ (at ≤ r) × (r ≤ 4096) ⌝ }
 {
-    if header::are_two(p % 128, p / 128, e.words) {
+    if header::are_two(p % NAME_LIMIT, p / NAME_LIMIT, e.words) {
         return inside(w, at, p + AFTER_TWO, scope, kinds, e);
     }
     FAIL
@@ -207,7 +212,7 @@ fn literal(
     kinds: &[u8; 192],
     e: Context,
 ) -> usize
-    requires { ⌜ (length (now w) ≤ 1536) × (at ≤ 4096) × (e .words ≤ 64) × (e .level ≤ at) ⌝ }
+    requires { ⌜ (length (now w) ≤ bodiesSize) × (at ≤ 4096) × (e .words ≤ 64) × (e .level ≤ at) ⌝ }
     ensures { λ r. ⌜ LiteralEnds (e .words) (holds (e .refs) (now (kinds .entry)) (e .actor)) (now (scope .entry)) (e .level) (now (w .entry)) h at r ⌝ }
     ensures { λ r. ⌜ Kept (now (scope .entry)) (now (scope .exit)) ⌝ }
     ensures { λ r. ⌜ (at ≤ r) × (r ≤ 4096) ⌝ }
@@ -243,7 +248,7 @@ fn fields_from(
     kinds: &[u8; 192],
     e: Context,
 ) -> usize
-    requires { ⌜ (length (now w) ≤ 1536) × (at ≤ 4096) × (e .words ≤ 64) × (e .level ≤ at + 1) × (n ≤ 8) ⌝ }
+    requires { ⌜ (length (now w) ≤ bodiesSize) × (at ≤ 4096) × (e .words ≤ 64) × (e .level ≤ at + 1) × (n ≤ 8) ⌝ }
     ensures { λ r. ⌜ FieldsEnd (e .words) (holds (e .refs) (now (kinds .entry)) (e .actor)) (now (scope .entry)) (e .level) (now (w .entry)) names n at r ⌝ }
     ensures { λ r. ⌜ Kept (now (scope .entry)) (now (scope .exit)) ⌝ }
     ensures { λ r. ⌜ (at ≤ r) × (r ≤ 4096) ⌝ }
@@ -257,7 +262,15 @@ fn fields_from(
     let h = w[at];
     if header::field_header(h, names, e.words) {
         let a = term(w, at + 1, scope, kinds, e);
-        return fields_from(w, a, n - 1, header::noted(names, h % 128), scope, kinds, e);
+        return fields_from(
+            w,
+            a,
+            n - 1,
+            header::noted(names, h % NAME_LIMIT),
+            scope,
+            kinds,
+            e,
+        );
     }
     FAIL
 }
@@ -272,7 +285,7 @@ pub fn methods_from(
     kinds: &[u8; 192],
     e: Context,
 ) -> usize
-    requires { ⌜ (length (now w) ≤ 1536) × (at ≤ 4096) × (e .words ≤ 64) × (e .level ≤ at + 1) × (n ≤ 8) ⌝ }
+    requires { ⌜ (length (now w) ≤ bodiesSize) × (at ≤ 4096) × (e .words ≤ 64) × (e .level ≤ at + 1) × (n ≤ 8) ⌝ }
     ensures { λ r. ⌜ MethodsEnd (e .words) (holds (e .refs) (now (kinds .entry)) (e .actor)) (now (scope .entry)) (e .level) (now (w .entry)) names n at r ⌝ }
     ensures { λ r. ⌜ Kept (now (scope .entry)) (now (scope .exit)) ⌝ }
     ensures { λ r. ⌜ (at ≤ r) × (r ≤ 4096) ⌝ }
@@ -285,8 +298,16 @@ pub fn methods_from(
     }
     let h = w[at];
     if header::method_header(h, names, e.words) {
-        let a = inside(w, at + 1, h / 512, scope, kinds, e);
-        return methods_from(w, a, n - 1, header::noted(names, h % 128), scope, kinds, e);
+        let a = inside(w, at + 1, h / TAGGED_LIMIT, scope, kinds, e);
+        return methods_from(
+            w,
+            a,
+            n - 1,
+            header::noted(names, h % NAME_LIMIT),
+            scope,
+            kinds,
+            e,
+        );
     }
     FAIL
 }

@@ -4,11 +4,14 @@ ghost use mathlib.Core.Bool.{_&&_};
 ghost use Prim.Native.Nat.{_≤_, _%_};
 ghost use lib.Dec.{leb};
 ghost use Rattle.atlite.specs.Valid.{isName, isVariable};
+ghost use Rattle.layout.specs.Numbers.{payload};
 ghost use Rattle.layout.specs.TermReading.{refIn};
 ghost use Rattle.wellformed.specs.Kinds.{kindOf, allowed};
 ghost use Rattle.wellformed.specs.Words.{callIn, lone as isLone};
-use crate::PAYLOAD;
 use heap::EntityNo;
+use layout::NAME_LIMIT;
+use layout::NUMBER_LIMIT;
+use layout::PAYLOAD;
 
 // The name of a field or a method.
 pub fn is_name(x: u32, words: u32) -> bool
@@ -42,7 +45,7 @@ pub fn is_variable(x: u32, words: u32) -> bool
 pub fn kind_of(q: u32, kinds: &[u8; 192]) -> u8
     ensures { λ r. ⌜ r ≡ kindOf (now (kinds .entry)) (refIn q) ⌝ }
 {
-    let b = q / 65536 / 2;
+    let b = q / NUMBER_LIMIT / 2;
     if 4 <= b {
         return 0;
     }
@@ -70,7 +73,7 @@ pub fn reference(q: u32, kinds: &[u8; 192], actor: u32) -> bool
     if k == 0 {
         return false;
     }
-    if actor == q / 65536 / 2 {
+    if actor == q / NUMBER_LIMIT / 2 {
         return true;
     }
     if k == 2 {
@@ -112,12 +115,12 @@ pub fn lone(x: u32, n: u32) -> bool
 // The same of a call.
 pub fn call_name(h: u32, words: u32) -> bool
     requires { ⌜ words ≤ 64 ⌝ }
-    ensures { λ r. ⌜ r ≡ callIn words (h % 16777216) ⌝ }
+    ensures { λ r. ⌜ r ≡ callIn words (h % payload) ⌝ }
 {
     let p = h % PAYLOAD;
-    let x = p % 128;
-    let n = p / 128 / 4;
-    match p / 128 % 4 {
+    let x = p % NAME_LIMIT;
+    let n = p / NAME_LIMIT / 4;
+    match p / NAME_LIMIT % 4 {
         0 => named(x, n, 0, 3, words),
         2 => lone(x, n),
         _ => false,

@@ -9,6 +9,7 @@ use mathlib.Core.List.{List, [], _∷_, _++_}
 use lib.ListN.{length}
 use Rattle.atlite.specs.Script.{SrcOp, srcShape, Src, num, null, var, op, letIn, future, fn, when, literal, Srcs, nil, cons, SrcFields, noField, field, SrcMethods, noMethod, method, Line, expression, define, countSrcs}
 use Rattle.atlite.specs.Table.{countFields, countMethods}
+use Rattle.layout.specs.Numbers.{fieldKind}
 use Rattle.layout.specs.Pack.{flat}
 use Rattle.layout.specs.Terms.{labelNumber, kindNumber}
 use Rattle.layout.specs.Tables.{srcKind}
@@ -62,7 +63,7 @@ unfoldable mutual
 
   pub wideFields : SrcFields → List ℕ
   wideFields noField = []
-  wideFields (field f e fs) = wide 128 f ∷ (wideSrc e ++ wideFields fs)
+  wideFields (field f e fs) = wide fieldKind f ∷ (wideSrc e ++ wideFields fs)
 
   pub wideMethods : SrcMethods → List ℕ
   wideMethods noMethod = []

@@ -1,6 +1,7 @@
 -- The functions that find where terms end, which call one another, meet their contracts. What is left of the words falls at every call;
 -- at one position a form stands above a literal, a literal above its lists, a list above its elements and a binder above its terms. The
 -- loop over a term keeps that what is left of it are so many terms further on. Assumes nothing.
+use Rattle.layout.specs.Numbers.{thirdPlace}
 use Rattle.wellformed.specs.Words.{holds}
 use Rattle.wellformed.specs.Ends.{Left}
 use Rattle.wellformed.specs.FormLaws.{form-laws, binder-laws}
@@ -139,7 +140,7 @@ term-below t = and 3 term-kinds.ps (falls 3 term-kinds.ps _<_ μ-term t) term.Pr
 
 abbrev term-Inv-loop : term-lts.InvT-loop
 term-Inv-loop w at scope₀ kinds e i₀ left₀ scope i left =
-    Left (e .words) (holds (e .refs) kinds (e .actor)) scope₀ (e .level) w at left i × Kept scope₀ scope × (at ≤ i) × (i ≤ 4096) × (left ≤ 8388608 * i + 1)
+    Left (e .words) (holds (e .refs) kinds (e .actor)) scope₀ (e .level) w at left i × Kept scope₀ scope × (at ≤ i) × (i ≤ 4096) × (left ≤ thirdPlace * i + 1)
 
 abbrev term-μ-loop : term-lts.MeasureT-loop
 term-μ-loop w at scope₀ kinds e i₀ left₀ scope i left = length w - i
