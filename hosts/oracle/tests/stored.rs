@@ -1,13 +1,13 @@
-//! The stored moves of the program `moves` are those that the cases here make, and it expects as many to agree.
+//! The stored moves of the program `test_moves` are those that the cases here make, and it expects as many to agree.
 
 use std::fs;
 use std::path::{Path, PathBuf};
 
 use oracle::stored::groups;
 
-/// A file of the crate `moves`.
+/// A file of the crate `test_moves`.
 fn stored(name: &str) -> PathBuf {
-    Path::new(env!("CARGO_MANIFEST_DIR")).join("../../crates/moves").join(name)
+    Path::new(env!("CARGO_MANIFEST_DIR")).join("../../crates/test_moves").join(name)
 }
 
 #[test]

@@ -1,7 +1,7 @@
-//! Writes the stored moves of the program `moves`: `oracle-moves DIR` makes a file for each group in the folder.
+//! Writes the stored moves of the program `test_moves`: `oracle-moves DIR` makes a file for each group in the folder.
 //!
 //! From the root of the repository: `cargo run --release --manifest-path hosts/oracle/Cargo.toml --bin oracle-moves
-//! crates/moves/data`. The same files come out each time.
+//! crates/test_moves/data`. The same files come out each time.
 
 use std::path::Path;
 use std::{env, fs, io};
