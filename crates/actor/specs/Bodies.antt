@@ -18,7 +18,7 @@ use Rattle.wellformed.specs.Words.{holds}
 use Rattle.wellformed.specs.Ends.{endOf, methodsHold}
 use Rattle.wellformed.specs.EndLaws.{ends-got, ends-at}
 use Rattle.actor.specs.Objects.{Judges}
-use Rattle.actor.specs.Judges.{Ends}
+use Rattle.actor.specs.PartContract.{Ends}
 
 -- where n methods at b end, and where the expression of a region does
 unfoldable pub methodsReach : Bool → List ℕ → ℕ → ℕ → List ℕ → ℕ → ℕ → ℕ

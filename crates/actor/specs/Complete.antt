@@ -21,7 +21,7 @@ use Rattle.layout.specs.Terms.{encodeTerm}
 use Rattle.layout.specs.Layout.{encodeMessage, slots, bodies, queues, encodeActor}
 use Rattle.layout.specs.Slots.{slots-length, queues-fit}
 use Rattle.layout.specs.Parts.{ActorFits, messages-length, fromCounts, fromCopied, fromBodies, counts, regions, from-expr, from-inbox, from-waiting, from-made, from-copied, from-bodies}
-use Rattle.layout.specs.Holds.{WithinActor, within-to}
+use Rattle.layout.specs.StateFits.{WithinActor, within-to}
 use Rattle.layout.specs.Arity.{nodesIn, nodes-append, term-nodes, bodies-nodes}
 use Rattle.layout.specs.Parse.{zerosAt}
 use Rattle.layout.specs.Spans.{Spans}
@@ -34,7 +34,7 @@ use Rattle.actor.specs.Series.{whole-each, span-split, slots-complete}
 use Rattle.actor.specs.Queues.{slots-kind}
 use Rattle.actor.specs.Orders.{Kinds, queues-ordered}
 use Rattle.actor.specs.Regions.{region-complete, span-in, span-front, tail-zeros}
-use Rattle.actor.specs.Judges.{IsPart, Ends}
+use Rattle.actor.specs.PartContract.{IsPart, Ends}
 
 module _ (K : List ℕ) (a W : ℕ) (w : List ℕ) (few : W ≤ 64) (l : a < ownerLimit) where
   abbrev P : Value → Type 0

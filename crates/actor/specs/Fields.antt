@@ -13,7 +13,7 @@ use Rattle.atlite.specs.Term.{Value}
 use Rattle.atlite.specs.State.{Field, field, fieldNames, fieldValues}
 use Rattle.atlite.specs.Valid.{All, isName, namesWithin, FieldsHeld}
 use Rattle.atlite.specs.Facts.{and₂, and₃, and₄, both₂, both₃, both₄}
-use Rattle.invariant.specs.Arrivals.{fields-all}
+use Rattle.invariant.specs.Delivery.{fields-all}
 use Rattle.invariant.specs.TermTests.{Is, all-is, is-all}
 use Rattle.layout.specs.Numbers.{nameLimit}
 use Rattle.layout.specs.Pack.{zeros, pad, names}

@@ -12,12 +12,12 @@ pub mod Queues
 pub mod Orders
 -- all of a part
 pub mod Regions
-pub mod Judges
+pub mod PartContract
 pub mod Sound
 pub mod Complete
 pub mod Bodies
 -- what each way through the code returns
-pub mod ValueSteps
-pub mod MessageSteps
-pub mod SlotSteps
-pub mod PartSteps
+pub mod ValueLaws
+pub mod MessageLaws
+pub mod SlotLaws
+pub mod PartLaws

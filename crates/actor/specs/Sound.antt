@@ -24,7 +24,7 @@ use Rattle.layout.specs.TermLaws.{Fits}
 use Rattle.layout.specs.Layout.{encodeMessage, slots, bodies, queues, encodeActor}
 use Rattle.layout.specs.Slots.{EntitiesFit}
 use Rattle.layout.specs.Parts.{ActorFits}
-use Rattle.layout.specs.Holds.{isolate-waits, queues-count}
+use Rattle.layout.specs.StateFits.{isolate-waits, queues-count}
 use Rattle.layout.specs.Arity.{nodesIn, nodes-append, term-nodes, bodies-nodes}
 use Rattle.layout.specs.Parse.{zerosAt}
 use Rattle.layout.specs.Spans.{Spans, span-join, span-end}
@@ -37,7 +37,7 @@ use Rattle.actor.specs.Series.{EachFrom, each-whole, SeriesIs, slots-sou
 use Rattle.actor.specs.Queues.{fill, fill-length, fill-slots, fill-bodies, fill-nodes, fill-queues, fill-fits, fill-holds, slots-kind}
 use Rattle.actor.specs.Orders.{Kinds, ordered-sorted, ordered-waits, ordered-opens}
 use Rattle.actor.specs.Regions.{region-sound, six-words, regions-all, span-out, span-front, tail-zeros}
-use Rattle.actor.specs.Judges.{IsPart, Ends}
+use Rattle.actor.specs.PartContract.{IsPart, Ends}
 
 no-queues : (E : ℕ → Entity → Type 0) (n : ℕ) (h : List Entity) → EachFrom (λ n o. (isIsolate o ≡ true) × E n o) n h → queues h ≡ []
 unfolding queues

@@ -31,8 +31,8 @@ abbrev pub arguments : ℕ → ℕ
 arguments x = low x / nameLimit / tagLimit
 
 -- a position, if a test is true
-abbrev pub reached : Bool → ℕ → ℕ
-reached t b = cond t b 4096
+abbrev pub endIf : Bool → ℕ → ℕ
+endIf t b = cond t b 4096
 
 -- a slot of neither fields nor methods
 unfoldable pub plainAt : List ℕ → ℕ → Bool
@@ -105,9 +105,9 @@ module _ (K : List ℕ) (a W : ℕ) (w : List ℕ) where
         4096
         ∷ objectEnd at b (f m b)
         ∷ objectEnd at b (g m b)
-        ∷ reached (openAt w at) b
-        ∷ reached (settledAt K a w at) b
-        ∷ reached (resolverAt K a w at) b
+        ∷ endIf (openAt w at) b
+        ∷ endIf (settledAt K a w at) b
+        ∷ endIf (resolverAt K a w at) b
         ∷ []
 
     unfoldable pub madeEnd : ℕ → ℕ → ℕ → ℕ

@@ -10,7 +10,7 @@ ghost use Rattle.layout.specs.Numbers.{bodiesSize};
 ghost use Rattle.layout.specs.Parse.{valueAt};
 ghost use Rattle.wellformed.specs.Kinds.{futureBy};
 ghost use Rattle.wellformed.specs.Words.{within};
-ghost use Rattle.actor.specs.Tests.{fieldsAt, objectEnd, reached, plainAt, openAt, settledAt, resolverAt, madeEnd, copiedEnd, slotsEnd};
+ghost use Rattle.actor.specs.Tests.{fieldsAt, objectEnd, endIf, plainAt, openAt, settledAt, resolverAt, madeEnd, copiedEnd, slotsEnd};
 ghost use Rattle.actor.specs.Bodies.{methodsReach};
 use crate::values;
 use layout::BODIES_SIZE;
@@ -158,8 +158,8 @@ fn resolver(w: &[u32], at: usize, a: u32, kinds: &[u8; 192]) -> bool
 }
 
 // `b`, if the test was passed.
-fn reach(ok: bool, b: usize) -> usize
-    ensures { λ r. ⌜ r ≡ reached ok b ⌝ }
+fn end_if(ok: bool, b: usize) -> usize
+    ensures { λ r. ⌜ r ≡ endIf ok b ⌝ }
 {
     if ok {
         return b;
@@ -187,9 +187,9 @@ fn made_slot(
     match w[at] % 8 {
         1 => object(w, at, bodies, b, true, a, words, kinds),
         2 => object(w, at, bodies, b, false, a, words, kinds),
-        3 => reach(open(w, at), b),
-        4 => reach(settled(w, at, a, kinds), b),
-        5 => reach(resolver(w, at, a, kinds), b),
+        3 => end_if(open(w, at), b),
+        4 => end_if(settled(w, at, a, kinds), b),
+        5 => end_if(resolver(w, at, a, kinds), b),
         _ => FAIL,
     }
 }

@@ -1,4 +1,4 @@
 -- P1: null as a reply
 pub mod NullReply
 -- inputs with what they give
-pub mod Shown
+pub mod Examples

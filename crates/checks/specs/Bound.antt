@@ -13,7 +13,7 @@ use lib.ListN.{length, getD, set}
 use lib.Seq.{set-set, set-getD}
 use Rattle.words.specs.Wide.{wideLimit, wideParamsAt, wideThird}
 use Rattle.checks.specs.Trees.{Forest, empty, tree, words, count, outer, inner, Fits}
-use Rattle.checks.specs.TreeCode.{Here, length-tree, here-word, here-outer, here-inner, here-next, answer, chain, no-tree}
+use Rattle.checks.specs.TreeContract.{Here, length-tree, here-word, here-outer, here-inner, here-next, answer, chain, no-tree}
 
 -- a variable is `this` or in scope
 unfoldable pub sees : ℕ → ℕ → List ℕ → Bool

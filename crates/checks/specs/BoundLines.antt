@@ -16,10 +16,10 @@ use Rattle.atlite.specs.Table.{Grammatical, GrammaticalLines}
 use Rattle.layout.specs.Results.{done-same, bind-done}
 use Rattle.words.specs.Wide.{wide, wideSrc, wideLines, wideLimit}
 use Rattle.checks.specs.Names.{Name, named}
-use Rattle.checks.specs.Stands.{Stands}
+use Rattle.checks.specs.LinesAt.{Stands}
 use Rattle.checks.specs.Trees.{empty, words, count, put, words-put, count-put}
 use Rattle.checks.specs.TreeFits.{fits-put, none}
-use Rattle.checks.specs.TreeCode.{Here, answer, stopped, went}
+use Rattle.checks.specs.TreeContract.{Here, answer, stopped, went}
 use Rattle.checks.specs.Lines.{startBy, here-words, line-src, line-rest, line-start, define-word, define-src, define-rest, not-past, here-all}
 use Rattle.checks.specs.Bound.{Scanned, Swapped, Kept, kept}
 use Rattle.checks.specs.BoundPut.{ok-put, ok-none}

@@ -1,18 +1,18 @@
 -- where a script stands, and its names
-pub mod Stands
+pub mod LinesAt
 pub mod Names
 -- limits
 pub mod Depth
 pub mod Size
 -- the table
 pub mod Narrow
-pub mod Writing
-pub mod Written
+pub mod TableWriteLaws
+pub mod TableRegions
 -- passes over trees
 pub mod Trees
 pub mod Operators
 pub mod TreeFits
-pub mod TreeCode
+pub mod TreeContract
 pub mod Lines
 -- lists name a thing once
 pub mod Single

@@ -15,10 +15,10 @@ use Rattle.layout.specs.Pack.{flat}
 use Rattle.layout.specs.Terms.{kindNumber}
 use Rattle.layout.specs.Tables.{srcKind}
 use Rattle.words.specs.Wide.{wide, wideSrc, wideLine, wideLines}
-use Rattle.checks.specs.Stands.{Stands}
+use Rattle.checks.specs.LinesAt.{Stands}
 use Rattle.checks.specs.Trees.{empty, words, put, words-put}
 use Rattle.checks.specs.Operators.{op-passed}
-use Rattle.checks.specs.TreeCode.{Here, here-left, here-right, here-first}
+use Rattle.checks.specs.TreeContract.{Here, here-left, here-right, here-first}
 
 -- ---- an expression's first word is no header
 pub record Headed (v : List ℕ) : Type 0 where

@@ -12,7 +12,7 @@ use lib.ListN.{length, getD}
 use Rattle.layout.specs.Numbers.{fieldKind}
 use Rattle.words.specs.Wide.{wideLimit, wideParamsAt, wideThird}
 use Rattle.checks.specs.Trees.{Forest, empty, tree, words, count, outer, inner, Fits}
-use Rattle.checks.specs.TreeCode.{Here, length-tree, here-word, here-outer, here-inner, here-next, answer, chain, no-tree}
+use Rattle.checks.specs.TreeContract.{Here, length-tree, here-word, here-outer, here-inner, here-next, answer, chain, no-tree}
 
 -- none of the names in n is x
 unfoldable pub fresh : ℕ → ℕ → Bool

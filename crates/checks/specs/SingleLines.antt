@@ -13,10 +13,10 @@ use Rattle.atlite.specs.Script.{seq, Src, op, letIn, nil, cons, Line, expressio
 use Rattle.atlite.specs.Table.{Grammatical, GrammaticalLines}
 use Rattle.layout.specs.Results.{done-same, bind-done}
 use Rattle.words.specs.Wide.{wideSrc, wideLines}
-use Rattle.checks.specs.Stands.{Stands}
+use Rattle.checks.specs.LinesAt.{Stands}
 use Rattle.checks.specs.Trees.{empty, words, count, put, words-put, count-put}
 use Rattle.checks.specs.TreeFits.{fits-put, none}
-use Rattle.checks.specs.TreeCode.{Here, answer, stopped, went}
+use Rattle.checks.specs.TreeContract.{Here, answer, stopped, went}
 use Rattle.checks.specs.Lines.{Start, here-words, line-src, line-rest, line-start, define-src, define-rest, define-start, not-past, here-all}
 use Rattle.checks.specs.Single.{Walked}
 use Rattle.checks.specs.SinglePut.{sing-put, sing-none}

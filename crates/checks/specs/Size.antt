@@ -21,7 +21,7 @@ use Rattle.layout.specs.Terms.{kindNumber}
 use Rattle.layout.specs.Tables.{srcKind}
 use Rattle.checks.specs.Operators.{op-passed}
 use Rattle.layout.specs.Results.{done-same, bind-done}
-use Rattle.checks.specs.Stands.{Stands, within}
+use Rattle.checks.specs.LinesAt.{Stands, within}
 use Rattle.words.specs.Wide.{wide, wideMethod, wideSrc, wideSrcs, wideFields, wideMethods, wideLine, wideLines}
 
 unfoldable pub isNode : ℕ → ℕ

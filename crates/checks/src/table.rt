@@ -6,8 +6,8 @@ ghost use Prim.Native.Nat.{_+_, _*_, _/_, _%_, _≤_, _<_};
 ghost use lib.ListN.{length, set};
 ghost use Rattle.layout.specs.Numbers.{linesSize, tableWords};
 ghost use Rattle.checks.specs.Narrow.{tableWord, narrow as narrowed};
-ghost use Rattle.checks.specs.Written.{Written};
-ghost use Rattle.checks.specs.Writing.{Placed, MethodWord, Cleared, LinesPut, WordPut, WordsPut};
+ghost use Rattle.checks.specs.TableRegions.{Written};
+ghost use Rattle.checks.specs.TableWriteLaws.{Placed, MethodWord, Cleared, LinesPut, WordPut, WordsPut};
 
 // The table's word of kind `k` and payload `p`.
 fn table_word(k: u64, p: u64) -> u32

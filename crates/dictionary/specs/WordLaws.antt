@@ -19,9 +19,9 @@ use Rattle.atlite.specs.Reader.{item}
 use Rattle.reading.specs.Items.{word-parts, Ends, item-run}
 use Rattle.layout.specs.Pack.{zeros}
 use Rattle.layout.specs.PackLaws.{each-append, pack-low, pack-high, length-zeros}
-use Rattle.layout.specs.Whole.{ByteFits, bytes-back}
+use Rattle.layout.specs.StateReads.{ByteFits, bytes-back}
 use Rattle.layout.specs.Fitting.{each-all}
-use Rattle.layout.specs.Holds.{byte-fits}
+use Rattle.layout.specs.StateFits.{byte-fits}
 use Rattle.layout.specs.Layout.{bytesNumber, threeWords, encodeWord}
 use Rattle.layout.specs.Decode.{bytesIn, decodeWord}
 use Rattle.scan.specs.Runs.{Run}

@@ -1,6 +1,6 @@
 -- what the calls promise
-pub mod Loads
-pub mod Moving
-pub mod Running
+pub mod LoadContract
+pub mod MoveContract
+pub mod RunContract
 -- demand 3 of these calls
-pub mod Quotes
+pub mod CallHistories

@@ -2,7 +2,7 @@
 ghost use mathlib.Core.Path.{_≡_};
 ghost use Rattle.atlite.specs.Answers.{loadAnswer};
 ghost use Rattle.layout.specs.Meaning.{loadCall};
-ghost use Rattle.engine.specs.Loads.{LoadsCall};
+ghost use Rattle.engine.specs.LoadContract.{LoadsCall};
 use atlite::Loaded;
 use layout::STATE;
 use layout::TABLE;

@@ -23,7 +23,7 @@ use Rattle.atlite.specs.Facts.{refused-done, none-some}
 use Rattle.reading.specs.Exact.{table-count, table-words}
 use Rattle.invariant.specs.Terms.{put-first}
 use Rattle.invariant.specs.Entries.{each-one}
-use Rattle.invariant.specs.Expanded.{Plain, expanded}
+use Rattle.invariant.specs.ExpandedForms.{Plain, expanded}
 
 -- lines of the grammar are joined to a script of the grammar
 pub joined : (w : ℕ) (ls : List Line) (e : Src) → GrammaticalLines w ls → join ls ≡ done e → Grammatical w e

@@ -17,10 +17,10 @@ use Rattle.atlite.specs.ValidTest.{wellFormed, wellFormedMethods, visible, hold
 use Rattle.atlite.specs.Facts.{eqb-same, none-some, and₂, and₃, and₄, both₂, both₃, both₄, and₅}
 use Rattle.atlite.specs.Limits.{full, withinLimits}
 use Rattle.atlite.specs.State as St
-use Rattle.invariant.specs.Growing.{actor-up}
+use Rattle.invariant.specs.Monotonicity.{actor-up}
 use borrow.Author.Tests.{eqb-true, leb-true, ltb-true, le-leb, lt-ltb}
 use Rattle.invariant.specs.Terms.{widerMethods}
-use Rattle.invariant.specs.Passed.{same-value}
+use Rattle.invariant.specs.PassedIsolates.{same-value}
 use Rattle.invariant.specs.TermTests.{Is, all-is, is-all, wf-to, wf-from, methods-to, methods-from}
 
 series-same : (r q : Series) → sameSeries r q ≡ true → r ≡ q

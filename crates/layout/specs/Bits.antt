@@ -18,8 +18,8 @@ use Rattle.layout.specs.TermReads.{bit, asked-small, label-small}
 use Rattle.layout.specs.Layout.{valueWords, encodeMessage, slotHead, tagNumber, slot, slots, methodsOf, bodies, queues, encodeActor, bytesNumber, threeWords, encodeWord, encode}
 use Rattle.layout.specs.Slots.{MessageFits, EntityFits, EntitiesFit, count-names, tag-low, fits-of, queues-fit}
 use Rattle.layout.specs.Parts.{ActorFits}
-use Rattle.layout.specs.Whole.{ByteFits, WordFits}
-use Rattle.layout.specs.Holds.{state-fits}
+use Rattle.layout.specs.StateReads.{ByteFits, WordFits}
+use Rattle.layout.specs.StateFits.{state-fits}
 
 abbrev pub Small : List ℕ → Type 0
 Small l = Each (λ x. x < 4294967296) l

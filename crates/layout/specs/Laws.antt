@@ -15,8 +15,8 @@ use Rattle.invariant.specs.Tests.{is-state}
 use Rattle.layout.specs.Numbers.{stateWords}
 use Rattle.layout.specs.Layout.{encode}
 use Rattle.layout.specs.Decode.{decode, stateOf}
-use Rattle.layout.specs.Whole.{encode-length, state-read}
-use Rattle.layout.specs.Holds.{state-fits}
+use Rattle.layout.specs.StateReads.{encode-length, state-read}
+use Rattle.layout.specs.StateFits.{state-fits}
 
 pub state-length : (σ : State) → IsState σ → length (encode σ) ≡ stateWords
 state-length σ h = encode-length σ (state-fits σ h)

@@ -21,8 +21,8 @@ pub mod Values
 pub mod Fitting
 pub mod Slots
 pub mod Parts
-pub mod Whole
-pub mod Holds
+pub mod StateReads
+pub mod StateFits
 pub mod Laws
 pub mod Bits
 -- tables: there and back
@@ -48,4 +48,4 @@ pub mod ParseMessages
 pub mod Arity
 pub mod KindLaws
 -- computed examples
-pub mod Shown
+pub mod Examples

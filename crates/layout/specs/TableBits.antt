@@ -14,7 +14,7 @@ use Rattle.layout.specs.Tables.{srcKind, srcPayload, encodeSrc, encodeSr
 use Rattle.layout.specs.PackLaws.{each-map, NameFits}
 use Rattle.layout.specs.Kinds.{kind-small}
 use Rattle.layout.specs.Fitting.{each-all, name-fits}
-use Rattle.layout.specs.Whole.{WordFits}
+use Rattle.layout.specs.StateReads.{WordFits}
 use Rattle.layout.specs.Bits.{Small, both, pad-small, flat-small, node-small, name-small, method-small, header-small, word-small}
 use Rattle.layout.specs.TableReads.{variable-named, two-small, src-kind-small, src-payload-small}
 use Rattle.layout.specs.TableFitting.{table-fits}

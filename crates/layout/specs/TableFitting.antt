@@ -16,8 +16,8 @@ use Rattle.layout.specs.Pack.{flat}
 use Rattle.layout.specs.Tables.{encodeSrc, encodeSrcs, encodeFields, encodeSrcMethods, encodeLine}
 use Rattle.layout.specs.PackLaws.{Each}
 use Rattle.layout.specs.Results.{done-same, bind-done}
-use Rattle.layout.specs.Whole.{WordFits}
-use Rattle.layout.specs.Holds.{words-fit}
+use Rattle.layout.specs.StateReads.{WordFits}
+use Rattle.layout.specs.StateFits.{words-fit}
 
 -- ---- lengths
 mutual

@@ -22,7 +22,7 @@ use Rattle.layout.specs.Reading.{cut}
 use Rattle.layout.specs.Decode.{decodeWord}
 use Rattle.layout.specs.TableReading.{srcStack, lineIn, decodeTable, sameTable, tableOf}
 use Rattle.layout.specs.PackLaws.{length-pad, pad-front, drop-pad, length-flat, cut-flat}
-use Rattle.layout.specs.Whole.{words-cut, words-three}
+use Rattle.layout.specs.StateReads.{words-cut, words-three}
 use Rattle.layout.specs.TableReads.{read-lines, read-zeros}
 use Rattle.layout.specs.TableFitting.{TableFits, table-fits}
 

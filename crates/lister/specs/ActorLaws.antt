@@ -9,11 +9,11 @@ use lib.Seq.{getD-drop, drop-drop}
 use Rattle.atlite.specs.Base.{bytes}
 use Rattle.atlite.specs.Printer.{printNumber}
 use Rattle.layout.specs.Numbers.{payload, inboxAt, waitingAt, madeAt, copiedAt, bodiesAt, partSize, headSize}
-use Rattle.showing.specs.Writing.{most, Wrote, wrote-none, wrote-two}
-use Rattle.showing.specs.Shown.{shown}
-use Rattle.lister.specs.Listed.{deep, inboxIn, slotsIn, spacedIn, titleIn, countsIn, exprIn, lineIn, entitiesIn, actorIn, actorsIn, listedIn}
-use Rattle.showing.specs.Codes.{Showed}
-use Rattle.lister.specs.Codes.{Slotted}
+use Rattle.showing.specs.Writer.{most, Wrote, wrote-none, wrote-two}
+use Rattle.showing.specs.TextOfWords.{shown}
+use Rattle.lister.specs.TextOfState.{deep, inboxIn, slotsIn, spacedIn, titleIn, countsIn, exprIn, lineIn, entitiesIn, actorIn, actorsIn, listedIn}
+use Rattle.showing.specs.ShowContract.{Showed}
+use Rattle.lister.specs.SlotContract.{Slotted}
 use Rattle.lister.specs.SlotLaws.{here}
 
 module _ (old : List ℕ) (o : ℕ) where

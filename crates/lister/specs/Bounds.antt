@@ -15,9 +15,9 @@ use Rattle.atlite.specs.Lexicon.{Bytes}
 use Rattle.atlite.specs.Printer.{digits, printNumber}
 use Rattle.layout.specs.Numbers.{payload, header, nameLimit, noName, taggedLimit, secondPlace, thirdPlace, numberLimit, ownerUnit, ownerLimit, slotUnit, exprAt, inboxAt, waitingAt, madeAt, copiedAt, bodiesAt, partSize, headSize, stateWords}
 use Rattle.layout.specs.Kinds.{Words, keywords, wordAt, wordIn as wordOf}
-use Rattle.showing.specs.Writing.{most}
-use Rattle.showing.specs.Shown.{letterIn, lettersIn, knownIn, wordIn, taggedIn, nameIn, first, second, openIn, placesIn, paramsIn, after, count, operatorIn, headIn, seriesIn, ownerIn, refIn, leafIn, Text, operandsIn, formIn, shown}
-use Rattle.lister.specs.Listed.{deep, messageIn, waits, waitingIn, inboxIn, fieldsIn, kindIn, stateIn, entryIn, openingIn, Entry, partsIn, slotIn, slotsIn, spacedIn, titleIn, countsIn, exprIn, lineIn, entitiesIn, actorIn, actorsIn, listedIn}
+use Rattle.showing.specs.Writer.{most}
+use Rattle.showing.specs.TextOfWords.{letterIn, lettersIn, knownIn, wordIn, taggedIn, nameIn, first, second, openIn, placesIn, paramsIn, after, count, operatorIn, headIn, seriesIn, ownerIn, refIn, leafIn, Text, operandsIn, formIn, shown}
+use Rattle.lister.specs.TextOfState.{deep, messageIn, waits, waitingIn, inboxIn, fieldsIn, kindIn, stateIn, entryIn, openingIn, Entry, partsIn, slotIn, slotsIn, spacedIn, titleIn, countsIn, exprIn, lineIn, entitiesIn, actorIn, actorsIn, listedIn}
 
 -- ---- one word
 either : (n : ℕ) (b : Bool) (x y : Bytes) → length x ≤ n → length y ≤ n → length (cond b x y) ≤ n

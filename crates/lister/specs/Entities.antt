@@ -23,13 +23,13 @@ use Rattle.layout.specs.TermLaws.{ValueFits}
 use Rattle.layout.specs.Layout.{valueWords, encodeMessage, slotHead, tagNumber, slot, slots, methodsOf, bodies, queue, queues}
 use Rattle.layout.specs.Slots.{MessageFits, EntityFits, EntitiesFit, At, queue-at, queues-from, queues-fit, slot-length, tag-low}
 use Rattle.layout.specs.Places.{flat-append}
-use Rattle.showing.specs.Shown.{seriesIn, operandsIn, shown}
-use Rattle.lister.specs.Listed.{deep, waits, waitingIn, fieldsIn, kindIn, stateIn, entryIn, openingIn, Entry, partsIn, slotIn, slotsIn}
+use Rattle.showing.specs.TextOfWords.{seriesIn, operandsIn, shown}
+use Rattle.lister.specs.TextOfState.{deep, waits, waitingIn, fieldsIn, kindIn, stateIn, entryIn, openingIn, Entry, partsIn, slotIn, slotsIn}
 use Rattle.showing.specs.Spelling.{Spells}
 use Rattle.showing.specs.Says.{behind-text, showing}
 use Rattle.showing.specs.Words.{leaf-shown}
 use Rattle.showing.specs.Forms.{operands-shown}
-use Rattle.lister.specs.Shows.{show-methods}
+use Rattle.lister.specs.TermText.{show-methods}
 use Rattle.lister.specs.Messages.{Quiet, later-waits, waiting-shown, fields-shown}
 
 -- ---- the head of a slot

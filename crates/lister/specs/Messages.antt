@@ -24,8 +24,8 @@ use Rattle.layout.specs.TermLaws.{ValueFits}
 use Rattle.layout.specs.Layout.{valueWords, encodeMessage}
 use Rattle.layout.specs.Decode.{aimOf, aim}
 use Rattle.layout.specs.Slots.{MessageFits, message-length, From, At}
-use Rattle.showing.specs.Shown.{formIn, shown}
-use Rattle.lister.specs.Listed.{messageIn, aimIn, waits, waitingIn, inboxIn, fieldsIn}
+use Rattle.showing.specs.TextOfWords.{formIn, shown}
+use Rattle.lister.specs.TextOfState.{messageIn, aimIn, waits, waitingIn, inboxIn, fieldsIn}
 use Rattle.showing.specs.Spelling.{Spells}
 use Rattle.showing.specs.Says.{form-text, showing}
 use Rattle.showing.specs.Words.{asked-parts, tag-shown, value-shown, field-says}

@@ -12,11 +12,11 @@ use lib.Seq.{getD-drop, drop-drop}
 use Rattle.atlite.specs.Base.{bytes}
 use Rattle.atlite.specs.Printer.{printNumber}
 use Rattle.layout.specs.Numbers.{payload, header, nameLimit, noName, taggedLimit, numberLimit, slotUnit}
-use Rattle.showing.specs.Writing.{most, Wrote, wrote-none, wrote-two}
-use Rattle.showing.specs.Shown.{seriesIn, leafIn, operandsIn, formIn, shown}
-use Rattle.lister.specs.Listed.{deep, messageIn, aimIn, waits, waitingIn, inboxIn, fieldsIn, kindIn, stateIn, entryIn, openingIn, partsIn, slotIn, slotsIn}
-use Rattle.showing.specs.Codes.{Showed}
-use Rattle.lister.specs.Codes.{Slotted}
+use Rattle.showing.specs.Writer.{most, Wrote, wrote-none, wrote-two}
+use Rattle.showing.specs.TextOfWords.{seriesIn, leafIn, operandsIn, formIn, shown}
+use Rattle.lister.specs.TextOfState.{deep, messageIn, aimIn, waits, waitingIn, inboxIn, fieldsIn, kindIn, stateIn, entryIn, openingIn, partsIn, slotIn, slotsIn}
+use Rattle.showing.specs.ShowContract.{Showed}
+use Rattle.lister.specs.SlotContract.{Slotted}
 
 -- the word at a place
 pub here : (t : List ℕ) (at : ℕ) → getD (drop at t) 0 0 ≡ getD t at 0

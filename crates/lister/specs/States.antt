@@ -21,11 +21,11 @@ use Rattle.layout.specs.Terms.{seriesBit, countMethods, encodeTerm}
 use Rattle.layout.specs.Layout.{encodeWord, encodeMessage, slotHead, slot, slots, bodies, queues, encodeActor, encode}
 use Rattle.layout.specs.Slots.{EntitiesFit, tag-low}
 use Rattle.layout.specs.Parts.{ActorFits, fromCounts, fromExpr, fromInbox, fromWaiting, fromMade, fromCopied, fromBodies, counts, regions, actor-length}
-use Rattle.layout.specs.Whole.{StateFits, topWords, head-words, words-three}
-use Rattle.showing.specs.Shown.{Text, shown}
-use Rattle.lister.specs.Listed.{deep, Entry, slotsIn, spacedIn, titleIn, countsIn, exprIn, lineIn, entitiesIn, actorIn, actorsIn, listedIn}
+use Rattle.layout.specs.StateReads.{StateFits, topWords, head-words, words-three}
+use Rattle.showing.specs.TextOfWords.{Text, shown}
+use Rattle.lister.specs.TextOfState.{deep, Entry, slotsIn, spacedIn, titleIn, countsIn, exprIn, lineIn, entitiesIn, actorIn, actorsIn, listedIn}
 use Rattle.showing.specs.Spelling.{Spells, entry-at}
-use Rattle.lister.specs.Shows.{show-term}
+use Rattle.lister.specs.TermText.{show-term}
 use Rattle.lister.specs.Messages.{Quiet, inbox-shown}
 use Rattle.lister.specs.Entities.{entry, entities-shown}
 

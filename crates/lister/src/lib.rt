@@ -19,11 +19,11 @@ ghost use mathlib.Core.List.{[], _∷_};
 ghost use Prim.Native.Nat.{_+_, _*_, _≤_, _<_};
 ghost use lib.ListN.{length, drop, getD};
 ghost use Rattle.layout.specs.Numbers.{ownerLimit, partSize, stateWords};
-ghost use Rattle.showing.specs.Writing.{Wrote};
-ghost use Rattle.lister.specs.Listed.{messageIn, aimIn, waitingIn, inboxIn, fieldsIn, kindIn, stateIn, entryIn, openingIn, partsIn, slotIn, slotsIn, spacedIn, titleIn, countsIn, exprIn, lineIn, entitiesIn, actorIn, actorsIn, listedIn};
-ghost use Rattle.lister.specs.Lists.{Lists};
-ghost use Rattle.showing.specs.Codes.{Showed};
-ghost use Rattle.lister.specs.Codes.{Slotted};
+ghost use Rattle.showing.specs.Writer.{Wrote};
+ghost use Rattle.lister.specs.TextOfState.{messageIn, aimIn, waitingIn, inboxIn, fieldsIn, kindIn, stateIn, entryIn, openingIn, partsIn, slotIn, slotsIn, spacedIn, titleIn, countsIn, exprIn, lineIn, entitiesIn, actorIn, actorsIn, listedIn};
+ghost use Rattle.lister.specs.ListContract.{Lists};
+ghost use Rattle.showing.specs.ShowContract.{Showed};
+ghost use Rattle.lister.specs.SlotContract.{Slotted};
 
 // The number that is no name.
 const NO_NAME: usize = layout::NO_NAME as usize;

@@ -16,7 +16,7 @@ use Rattle.layout.specs.Terms.{variable, binding, sendRegister}
 use Rattle.layout.specs.Kinds.{Kinds}
 use Rattle.layout.specs.Arity.{arity, ends, ends-none}
 use Rattle.layout.specs.KindLaws.{arity-leaf}
-use Rattle.loading.specs.Emitted.{leafIn, resolverWords, waiterWords, before, after, inner, Words, emits, operandsIn, formIn, resolveIn, whenIn, emitted}
+use Rattle.loading.specs.ExpandedWords.{leafIn, resolverWords, waiterWords, before, after, inner, Words, emits, operandsIn, formIn, resolveIn, whenIn, emitted}
 
 pub record One (n z : ℕ) (w s : List ℕ) : Type 0 where
   pub put : (r : List ℕ) → emitted n z (w ++ r) ≡ emits s r

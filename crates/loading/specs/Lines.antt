@@ -21,10 +21,10 @@ use Rattle.layout.specs.Terms.{kindNumber, encodeTerm, nullWord, binding}
 use Rattle.layout.specs.Tables.{srcKind, srcPayload, encodeSrc, definitionHeader, encodeLine}
 use Rattle.printer.specs.Nesting.{nesting, nestingLine, nestingLines}
 use Rattle.loading.specs.Expanding.{outside, expandOpWith, expandWith}
-use Rattle.loading.specs.Emitted.{emitted, leadIn, linesIn}
+use Rattle.loading.specs.ExpandedWords.{emitted, leadIn, linesIn}
 use Rattle.loading.specs.Expands.{One, many-one, one-front}
-use Rattle.loading.specs.Brought.{brings-definition}
-use Rattle.loading.specs.Emits.{selfWord, emit-src}
+use Rattle.loading.specs.FormWords.{brings-definition}
+use Rattle.loading.specs.ExpressionLaws.{selfWord, emit-src}
 
 -- ---- the first word of an expression is no definition's
 unfoldable pub Leads : List ℕ → Type 0

@@ -33,16 +33,16 @@ use Rattle.layout.specs.TermLaws.{Fits, term-length}
 use Rattle.layout.specs.Fitting.{plain-fits, fits-term}
 use Rattle.layout.specs.Arity.{nodesIn, term-nodes}
 use Rattle.layout.specs.Layout.{encodeWord, encode}
-use Rattle.layout.specs.Whole.{words-three}
+use Rattle.layout.specs.StateReads.{words-three}
 use Rattle.layout.specs.Tables.{encodeLine, encodeTable}
 use Rattle.layout.specs.TableFitting.{table-fits}
-use Rattle.loading.specs.Writing.{Wrote, cap, cap-small, cap-large}
-use Rattle.printer.specs.Nested.{depth-script}
+use Rattle.loading.specs.Writer.{Wrote, cap, cap-small, cap-large}
+use Rattle.printer.specs.TextDepth.{depth-script}
 use Rattle.loading.specs.Expanding.{outside, selfTerm, expandWith, expand-this}
-use Rattle.loading.specs.Emitted.{linesIn}
+use Rattle.loading.specs.ExpandedWords.{linesIn}
 use Rattle.loading.specs.Lines.{emit-lines}
 use Rattle.loading.specs.Start.{headWords, partWords, head-length, part-length, fresh, start-run}
-use Rattle.loading.specs.Loaded.{Loaded, LoadsWords, Loads}
+use Rattle.loading.specs.LoadContract.{Loaded, LoadsWords, Loads}
 
 -- ---- a table's words
 -- the first 192 of more words, of which few are not zero

@@ -13,7 +13,7 @@ use Rattle.layout.specs.Numbers.{exprAt, exprSize, queueSize, inboxAt, waitingA
 use Rattle.layout.specs.Pack.{zeros, pad, flat}
 use Rattle.layout.specs.PackLaws.{length-zeros, length-flat}
 use Rattle.layout.specs.Writes.{zeros-split, sets-append}
-use Rattle.layout.specs.Whole.{words-three}
+use Rattle.layout.specs.StateReads.{words-three}
 use Rattle.layout.specs.Terms.{encodeTerm}
 use Rattle.layout.specs.Layout.{slots, bodies, queues, encodeActor, encodeWord, encode}
 

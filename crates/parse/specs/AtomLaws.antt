@@ -24,7 +24,7 @@ use Rattle.parse.specs.declared.scratch.Step.{Step}
 use Rattle.parse.specs.declared.scratch.Step.the-variants.{Done, Bad}
 use Rattle.parse.specs.Atoms.{NumberIs, Named, NameOf}
 use Rattle.parse.specs.NameLaws.{name-small}
-use Rattle.parse.specs.Steps.{Took}
+use Rattle.parse.specs.DescentContract.{Took}
 
 number-filled : (w : Bytes) → isNumber w ≡ true → 0 < length w
 unfolding isNumber

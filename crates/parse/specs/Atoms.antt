@@ -9,7 +9,7 @@ use Rattle.atlite.specs.Base.{Result, done, refused, all}
 use Rattle.atlite.specs.Lexicon.{Bytes, isDigit, isNumber, decimal, dictionary}
 use Rattle.atlite.specs.Reader.{readWord, spacedWord}
 use Rattle.atlite.specs.Term.{top}
-use Rattle.scan.specs.Codes.{Holds}
+use Rattle.scan.specs.WordNumbers.{Holds}
 use Rattle.parse.specs.declared.numbers.Number.{Number as Numbers}
 use Rattle.parse.specs.declared.numbers.Number.the-variants.{Is, Not}
 use Rattle.parse.specs.declared.names.Name.{Name}

@@ -27,9 +27,9 @@ use Rattle.parse.specs.declared.scratch.Step.{Step}
 use Rattle.parse.specs.declared.scratch.Step.the-variants.{Bad}
 use Rattle.parse.specs.Atoms.{SpacedName}
 use Rattle.parse.specs.Operators.{operatorOf, operator-kind, is-bare, is-naming, ownKinds, Unformed, no-operator}
-use Rattle.parse.specs.Steps.{Took, Reads, exprs, brackets, formBy, forms, readOne, ones, oneWords, Parts, readParts, parts, partWords, headWords, readMid, mids, midWords, Follow, readArgs, readSend, sends, sendWords, readLiteral, literals, literalWords}
+use Rattle.parse.specs.DescentContract.{Took, Reads, exprs, brackets, formBy, forms, readOne, ones, oneWords, Parts, readParts, parts, partWords, headWords, readMid, mids, midWords, Follow, readArgs, readSend, sends, sendWords, readLiteral, literals, literalWords}
 use Rattle.parse.specs.NameLaws.{starts-room, spaced-read, spaced-refused}
-use Rattle.parse.specs.StepLaws.{shift, bind-assoc, under, took-under}
+use Rattle.parse.specs.DescentLaws.{shift, bind-assoc, under, took-under}
 use Rattle.parse.specs.PartLaws.{whole}
 
 -- ---- the first byte

@@ -2,12 +2,12 @@
 pub mod Atoms
 pub mod Headers
 pub mod Operators
-pub mod Steps
+pub mod DescentContract
 -- laws, one for each way to return
 pub mod NumberLaws
 pub mod NameLaws
 pub mod AtomLaws
-pub mod StepLaws
+pub mod DescentLaws
 pub mod PartLaws
 pub mod FormLaws
 pub mod ArgumentLaws
@@ -16,4 +16,4 @@ pub mod MethodLaws
 pub mod Cycle
 -- lines and the whole text
 pub mod Lines
-pub mod Parses
+pub mod TextLaws

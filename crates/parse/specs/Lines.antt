@@ -20,8 +20,8 @@ use Rattle.parse.specs.declared.scratch.Step.{Step}
 use Rattle.parse.specs.declared.scratch.Step.the-variants.{Done, Bad}
 use Rattle.parse.specs.Atoms.{NameRead, Named, NameOf}
 use Rattle.parse.specs.NameLaws.{eat-starts, eat-not, starts-room, name-small}
-use Rattle.parse.specs.Steps.{Read, Took, Reads, exprs, readOne, ones, oneWords}
-use Rattle.parse.specs.StepLaws.{bind-assoc, place-name, place-more, step-within, shift}
+use Rattle.parse.specs.DescentContract.{Read, Took, Reads, exprs, readOne, ones, oneWords}
+use Rattle.parse.specs.DescentLaws.{bind-assoc, place-name, place-more, step-within, shift}
 
 pub record EndsAt (t : Bytes) (j q i p : ℕ) : Type 0 where
   pub is : eat 10 (drop j t) ≡ done (drop i t)

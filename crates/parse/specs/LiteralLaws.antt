@@ -22,9 +22,9 @@ use Rattle.parse.specs.declared.scratch.Step.the-variants.{Done, Bad}
 use Rattle.parse.specs.declared.scratch.Listed.{Listed}
 use Rattle.parse.specs.declared.scratch.Listed.the-variants.{Items, NoItems}
 use Rattle.parse.specs.Atoms.{NameRead, Named, NameOf}
-use Rattle.parse.specs.Steps.{Place, Read, Took, Reads, Closed, ListRead, TookList, Lists, readOne, ones, oneWords, readLiteral, literals, literalWords, fieldsFrom, methodsFrom, fieldAt, readRest, TookEnd, Ended}
+use Rattle.parse.specs.DescentContract.{Place, Read, Took, Reads, Closed, ListRead, TookList, Lists, readOne, ones, oneWords, readLiteral, literals, literalWords, fieldsFrom, methodsFrom, fieldAt, readRest, TookEnd, Ended}
 use Rattle.layout.specs.Writes.{sets-append}
-use Rattle.parse.specs.StepLaws.{bind-assoc, headed}
+use Rattle.parse.specs.DescentLaws.{bind-assoc, headed}
 
 -- ---- places
 module _ (A : Type 0) (enc : A → List ℕ) (num : A → ℕ) (most b : ℕ) (R : ℕ → Reading A) (t : Bytes) (at o : ℕ) (old new : List ℕ) (a : Listed)

@@ -20,8 +20,8 @@ use Rattle.parse.specs.declared.scratch.Step.the-variants.{Done, Bad}
 use Rattle.parse.specs.declared.scratch.Listed.{Listed}
 use Rattle.parse.specs.declared.scratch.Listed.the-variants.{Items, NoItems}
 use Rattle.parse.specs.Headers.{HeadRead, TookHead, HeaderOf, readAll, readHeader}
-use Rattle.parse.specs.StepLaws.{bind-assoc}
-use Rattle.parse.specs.Steps.{Place, Reads, ListRead, TookList, Lists, readOne, ones, oneWords, methodsFrom, methodAt}
+use Rattle.parse.specs.DescentLaws.{bind-assoc}
+use Rattle.parse.specs.DescentContract.{Place, Reads, ListRead, TookList, Lists, readOne, ones, oneWords, methodsFrom, methodAt}
 use Rattle.parse.specs.LiteralLaws.{item-core, OneRead, value-bad, value}
 
 -- ---- methods

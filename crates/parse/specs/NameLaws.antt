@@ -15,8 +15,8 @@ use Rattle.atlite.specs.Reader.{eat, after, readWord, spaced, spacedWord}
 use Rattle.atlite.specs.Facts.{same-true, same-false-sym}
 use Rattle.scan.specs.Runs.{Run, Starts, index}
 use Rattle.scan.specs.Keywords.{index-le}
-use Rattle.scan.specs.Codes.{lowPart, highPart, Placed}
-use Rattle.scan.specs.Scans.{word-nonempty, word-is, not-apply, word-room}
+use Rattle.scan.specs.WordNumbers.{lowPart, highPart, Placed}
+use Rattle.scan.specs.DictionaryLaws.{word-nonempty, word-is, not-apply, word-room}
 use Rattle.parse.specs.declared.names.Name.{Name}
 use Rattle.parse.specs.declared.names.Name.the-variants.{Word, NoWord}
 use Rattle.parse.specs.Atoms.{Ready, NameRead, Named, NameOf, SpacedName}

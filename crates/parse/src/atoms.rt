@@ -8,7 +8,7 @@ ghost use Rattle.atlite.specs.Reader.{readAtom};
 ghost use Rattle.words.specs.Wide.{wideSrc};
 ghost use Rattle.scan.specs.Runs.{Run};
 ghost use Rattle.parse.specs.Atoms.{NumberIs, Ready};
-ghost use Rattle.parse.specs.Steps.{Place, Took};
+ghost use Rattle.parse.specs.DescentContract.{Place, Took};
 use crate::names::Name;
 use crate::names::word;
 use crate::numbers::Number;

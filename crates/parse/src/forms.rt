@@ -5,7 +5,7 @@ ghost use Prim.Native.Nat.{_+_, _<_};
 ghost use lib.ListN.{length};
 ghost use Rattle.words.specs.Wide.{wideSrc};
 ghost use Rattle.parse.specs.Atoms.{Ready};
-ghost use Rattle.parse.specs.Steps.{Place, Follow, Reads, exprs, spaceds, ones, oneWords, mids, midWords, brackets, forms};
+ghost use Rattle.parse.specs.DescentContract.{Place, Follow, Reads, exprs, spaceds, ones, oneWords, mids, midWords, brackets, forms};
 
 mod literals;
 mod messages;

@@ -2,8 +2,8 @@
 ghost use Prim.Native.Nat.{_≤_};
 ghost use lib.ListN.{length};
 ghost use Rattle.atlite.specs.Lexicon.{dictionary};
-ghost use Rattle.scan.specs.Codes.{Holds};
-ghost use Rattle.parse.specs.Parses.{Parses};
+ghost use Rattle.scan.specs.WordNumbers.{Holds};
+ghost use Rattle.parse.specs.TextLaws.{Parses};
 
 mod atoms;
 mod forms;

@@ -4,7 +4,7 @@ ghost use Prim.Native.Nat.{_+_, _*_, _≤_, _<_};
 ghost use lib.ListN.{length, set};
 ghost use Rattle.atlite.specs.Term.{top};
 ghost use Rattle.words.specs.Wide.{wide, pair};
-ghost use Rattle.parse.specs.Steps.{Place, Closed};
+ghost use Rattle.parse.specs.DescentContract.{Place, Closed};
 
 // The next positions in the text and in the words, or a refusal.
 pub enum Step {

@@ -24,7 +24,7 @@ use Rattle.invariant.specs.Moves.{move-keeps}
 use Rattle.layout.specs.Layout.{encode}
 use Rattle.layout.specs.Meaning.{answered, lent, moveCall}
 use Rattle.layout.specs.MeaningLaws.{lent-state, state-lent, move-length}
-use Rattle.showing.specs.Writing.{Wrote, wrote-none, wrote-two}
+use Rattle.showing.specs.Writer.{Wrote, wrote-none, wrote-two}
 use Rattle.play.specs.Limits.{longest, answerRoom, answersRoom}
 use Rattle.play.specs.Starts.{Holds}
 

@@ -3,7 +3,7 @@ pub mod Limits
 pub mod Lines
 pub mod Entries
 pub mod Starts
-pub mod Written
+pub mod Output
 pub mod Listings
 -- `loops`: the schedule line, and the run behind it
 pub mod Schedules

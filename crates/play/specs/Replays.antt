@@ -20,7 +20,7 @@ use Rattle.play.specs.Limits.{listingRoom, answersRoom, replayRoom}
 use Rattle.play.specs.Lines.{Opened, LineOf, script-lent, line-opened, line-length, line-short, line-none}
 use Rattle.play.specs.Entries.{EntriesOf, entries-held, entries-few, entries-inside, entries-short, entries-none}
 use Rattle.play.specs.Starts.{ofText, ofWords, start-holds, start-shows, start-stops}
-use Rattle.play.specs.Written.{Written, written-same, result-same}
+use Rattle.play.specs.Output.{Written, written-same, result-same}
 use Rattle.play.specs.Listings.{headed}
 use Rattle.play.specs.Calls.{Lined}
 

@@ -27,7 +27,7 @@ use Rattle.play.specs.Limits.{longest}
 use Rattle.play.specs.Lines.{Opened, LineOf, first-byte, script-lent, line-opened, line-length, line-short, line-none}
 use Rattle.play.specs.Entries.{EntriesOf, Reading, entries-held, entries-few, entries-inside, entries-none, read-starts, read-ends, read-fails, read-goes}
 use Rattle.play.specs.Starts.{ofText, ofWords, start-shows, start-stops}
-use Rattle.play.specs.Written.{Written, written-same, result-same}
+use Rattle.play.specs.Output.{Written, written-same, result-same}
 use Rattle.play.specs.Listings.{headed}
 
 -- ---- the line

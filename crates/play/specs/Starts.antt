@@ -29,7 +29,7 @@ use Rattle.layout.specs.Meaning.{answered, tableIn, lent, readCall, loadCall}
 use Rattle.layout.specs.MeaningLaws.{lent-state, read-done, read-length}
 use Rattle.layout.specs.Outcomes.{room-enough}
 use Rattle.layout.specs.Results.{refused-same}
-use Rattle.play.specs.Written.{Written, result-same}
+use Rattle.play.specs.Output.{Written, result-same}
 
 -- ---- what is left to do
 -- of the text of a script, and of the words of a state, where f is to be done with the state

@@ -5,7 +5,7 @@ ghost use Prim.Native.Nat.{_≤_};
 ghost use lib.ListN.{length};
 ghost use Rattle.atlite.specs.Answers.{moveAnswer};
 ghost use Rattle.atlite.specs.Printer.{printNumber};
-ghost use Rattle.showing.specs.Writing.{most, Wrote};
+ghost use Rattle.showing.specs.Writer.{most, Wrote};
 ghost use Rattle.play.specs.Limits.{longest, answersRoom};
 ghost use Rattle.play.specs.Starts.{Holds};
 ghost use Rattle.play.specs.Calls.{gap, told, Put, CallMade, Lined};

@@ -9,7 +9,7 @@ ghost use Rattle.play.specs.Limits.{longest, listingRoom, replayRoom};
 ghost use Rattle.play.specs.Lines.{Opened};
 ghost use Rattle.play.specs.Entries.{EntriesOf};
 ghost use Rattle.play.specs.Starts.{Holds, ofText, ofWords};
-ghost use Rattle.play.specs.Written.{Written};
+ghost use Rattle.play.specs.Output.{Written};
 ghost use Rattle.play.specs.Tokens.{Skips};
 ghost use Rattle.play.specs.Replays.{replayFrom};
 use crate::answers;

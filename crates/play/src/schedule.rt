@@ -9,7 +9,7 @@ ghost use Rattle.play.specs.Limits.{longest, listingRoom};
 ghost use Rattle.play.specs.Lines.{Opened};
 ghost use Rattle.play.specs.Entries.{EntriesOf};
 ghost use Rattle.play.specs.Starts.{ofText, ofWords};
-ghost use Rattle.play.specs.Written.{Written};
+ghost use Rattle.play.specs.Output.{Written};
 ghost use Rattle.play.specs.Schedules.{ran};
 use crate::line;
 use crate::line::Entries;

@@ -6,7 +6,7 @@ ghost use Rattle.atlite.specs.Base.{refused};
 ghost use Rattle.atlite.specs.Program.{shown};
 ghost use Rattle.play.specs.Limits.{listingRoom, answersRoom};
 ghost use Rattle.play.specs.Starts.{ofWords};
-ghost use Rattle.play.specs.Written.{Written};
+ghost use Rattle.play.specs.Output.{Written};
 ghost use Rattle.play.specs.Listings.{Fronted, headed};
 use atlite::Listed;
 

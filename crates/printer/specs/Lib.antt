@@ -1,10 +1,10 @@
-pub mod Shown
-pub mod Codes
+pub mod TextOfLines
+pub mod LineContract
 pub mod Names
-pub mod Printed
+pub mod PrintContract
 pub mod ShowLaws
 pub mod Nesting
-pub mod Nested
-pub mod Shows
+pub mod TextDepth
+pub mod ExpressionText
 pub mod Tables
 pub mod PrintLaws

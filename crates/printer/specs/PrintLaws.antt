@@ -13,10 +13,10 @@ use Rattle.layout.specs.Numbers.{tableWords}
 use Rattle.layout.specs.Tables.{encodeTable}
 use Rattle.layout.specs.TableFitting.{table-fits}
 use Rattle.printer.specs.declared.Written.the-variants.{Bytes, Bad}
-use Rattle.showing.specs.Writing.{Wrote}
+use Rattle.showing.specs.Writer.{Wrote}
 use Rattle.printer.specs.Names.{namesHold, table-names}
-use Rattle.printer.specs.Shown.{linesIn}
-use Rattle.printer.specs.Printed.{Printed}
+use Rattle.printer.specs.TextOfLines.{linesIn}
+use Rattle.printer.specs.PrintContract.{Printed}
 use Rattle.printer.specs.Tables.{table-count, table-text}
 
 -- ---- the ways to return

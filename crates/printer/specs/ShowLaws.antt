@@ -6,11 +6,11 @@ use native.Mathlib.Numerals.{sub-one}
 use native.Mathlib.Omega.{arith}
 use borrow.Author.Needs.{needs}
 use lib.ListN.{drop}
-use Rattle.showing.specs.Writing.{Wrote, wrote-none, wrote-two}
-use Rattle.showing.specs.Shown.{shown}
-use Rattle.showing.specs.Codes.{Showed}
-use Rattle.printer.specs.Shown.{linesIn}
-use Rattle.printer.specs.Codes.{Lined}
+use Rattle.showing.specs.Writer.{Wrote, wrote-none, wrote-two}
+use Rattle.showing.specs.TextOfWords.{shown}
+use Rattle.showing.specs.ShowContract.{Showed}
+use Rattle.printer.specs.TextOfLines.{linesIn}
+use Rattle.printer.specs.LineContract.{Lined}
 
 module _ (t : List ℕ) (n : ℕ) (old : List ℕ) where
   pub lines-start : Lined t n old n old 255 0

@@ -13,12 +13,12 @@ use Rattle.layout.specs.Pack.{pad, zeros, flat}
 use Rattle.layout.specs.PackLaws.{pad-front, drop-pad, length-flat}
 use Rattle.layout.specs.Layout.{encodeWord}
 use Rattle.layout.specs.Tables.{encodeLine, encodeTable}
-use Rattle.layout.specs.Whole.{words-three}
+use Rattle.layout.specs.StateReads.{words-three}
 use Rattle.layout.specs.TableFitting.{table-fits}
 use Rattle.showing.specs.Spelling.{Spells, entry-at}
-use Rattle.printer.specs.Shown.{linesIn}
-use Rattle.printer.specs.Nested.{depth-script}
-use Rattle.printer.specs.Shows.{show-lines}
+use Rattle.printer.specs.TextOfLines.{linesIn}
+use Rattle.printer.specs.TextDepth.{depth-script}
+use Rattle.printer.specs.ExpressionText.{show-lines}
 
 -- ---- a table's words, of which t has all behind the first
 head : Table → List ℕ

@@ -18,7 +18,7 @@ use Rattle.atlite.specs.Table.{writable, countFields, countMethods, Grammatical
 use Rattle.atlite.specs.Facts.{refused-done}
 use Rattle.reading.specs.Items.{after-whole, behind, closing, behind-append, form-closing, Within, within-form, within-append, ends-closing, item-run, placed-none, operator-writes, Spelt, OpRead, nameless, named, op-read, literal-read, Words}
 use Rattle.reading.specs.Sound.{GrammaticalLine, lines-grammatical}
-use Rattle.reading.specs.Takes.{Takes, word-takes, num-takes, null-takes, var-takes, items-end, items-more, head-takes}
+use Rattle.reading.specs.ReadBack.{Takes, word-takes, num-takes, null-takes, var-takes, items-end, items-more, head-takes}
 
 module _ (ws : List Bytes) (held : wordsHold ws ≡ true) where
   -- a form is read back if what stands behind its operator's word is

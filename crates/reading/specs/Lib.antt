@@ -3,6 +3,6 @@ pub mod Items
 pub mod Dictionary
 pub mod Words
 pub mod Sound
-pub mod Takes
+pub mod ReadBack
 pub mod Complete
 pub mod Exact

@@ -1,6 +1,6 @@
 pub mod Runs
-pub mod Codes
+pub mod WordNumbers
 pub mod RunLaws
 pub mod Keywords
-pub mod CodeLaws
-pub mod Scans
+pub mod WordNumberLaws
+pub mod DictionaryLaws

@@ -6,7 +6,7 @@ ghost use lib.Dec.{eqb};
 ghost use lib.ListN.{length};
 ghost use lib.Seq.{slice};
 ghost use Rattle.scan.specs.Runs.{Run};
-ghost use Rattle.scan.specs.Codes.{Numbered, lowPart, highPart, Placed};
+ghost use Rattle.scan.specs.WordNumbers.{Numbered, lowPart, highPart, Placed};
 
 fn wide(b: u8) -> u64
     ensures { λ r. ⌜ (r ≡ b) × (r < 256) ⌝ }

@@ -7,7 +7,7 @@ ghost use lib.Seq.{slice};
 ghost use Rattle.atlite.specs.Base.{bytes, sameBytes};
 ghost use Rattle.atlite.specs.Lexicon.{isWord};
 ghost use Rattle.scan.specs.Runs.{Run};
-ghost use Rattle.scan.specs.Codes.{Noted, Dictionary};
+ghost use Rattle.scan.specs.WordNumbers.{Noted, Dictionary};
 
 mod bytes;
 mod codes;

@@ -4,4 +4,4 @@ pub mod Claim
 pub mod Entries
 pub mod TwoLists
 -- that it is not about nothing
-pub mod Shown
+pub mod Examples

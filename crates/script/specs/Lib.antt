@@ -1,6 +1,6 @@
-pub mod Reads
-pub mod Judging
-pub mod Parsing
-pub mod Prints
+pub mod ReadContract
+pub mod ReaderCauses
+pub mod ParserAnswer
+pub mod PrintContract
 pub mod Reprinting
 pub mod TableTest

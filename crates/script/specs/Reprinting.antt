@@ -22,9 +22,9 @@ use Rattle.layout.specs.MeaningLaws.{read-done, read-leaves}
 use Rattle.words.specs.Runs.{Same}
 use Rattle.printer.specs.declared.Written.{Written}
 use Rattle.printer.specs.declared.Written.the-variants.{Bytes, Bad}
-use Rattle.printer.specs.Printed.{Printed}
-use Rattle.script.specs.Reads.{Reads}
-use Rattle.script.specs.Prints.{Prints, TextIn, IsText, Front, no-room, no-table}
+use Rattle.printer.specs.PrintContract.{Printed}
+use Rattle.script.specs.ReadContract.{Reads}
+use Rattle.script.specs.PrintContract.{Prints, TextIn, IsText, Front, no-room, no-table}
 
 -- ---- reading it
 module _ (t front old new : List ℕ) (room : tableWords ≤ length old) (r : Tabled) (s : Reads front old r new) where

@@ -19,7 +19,7 @@ use Rattle.layout.specs.TableLaws.{table-of-iff}
 use Rattle.layout.specs.Meaning.{tableIn, printCall}
 use Rattle.layout.specs.Outcomes.{answer-writes}
 use Rattle.layout.specs.MeaningLaws.{print-outcome, print-leaves}
-use Rattle.script.specs.Prints.{Prints}
+use Rattle.script.specs.PrintContract.{Prints}
 
 module _ (t old : List ℕ) where
   -- a table's words print

@@ -6,7 +6,7 @@ ghost use Rattle.atlite.specs.Base.{isDone};
 ghost use Rattle.atlite.specs.Answers.{printAnswer};
 ghost use Rattle.layout.specs.Numbers.{tableWords};
 ghost use Rattle.layout.specs.Meaning.{tableIn, printCall};
-ghost use Rattle.script.specs.Prints.{Prints, Given, IsText, Front};
+ghost use Rattle.script.specs.PrintContract.{Prints, Given, IsText, Front};
 use atlite::Printed;
 use atlite::Tabled;
 use layout::TABLE;

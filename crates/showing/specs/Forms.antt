@@ -7,7 +7,7 @@ use Rattle.atlite.specs.Lexicon.{Bytes}
 use Rattle.atlite.specs.Printer.{form, placed}
 use Rattle.reading.specs.Items.{behind, behind-append}
 use Rattle.layout.specs.Numbers.{noName}
-use Rattle.showing.specs.Shown.{nameIn, after, Text, operandsIn, formIn, shown}
+use Rattle.showing.specs.TextOfWords.{nameIn, after, Text, operandsIn, formIn, shown}
 use Rattle.showing.specs.Says.{Says, showing, behind-text, form-text}
 
 -- k operands before the words r: their own words, and their texts, which S shows

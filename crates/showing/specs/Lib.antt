@@ -1,7 +1,7 @@
 -- what the code is proved against
-pub mod Writing
-pub mod Shown
-pub mod Codes
+pub mod Writer
+pub mod TextOfWords
+pub mod ShowContract
 -- the laws of its functions
 pub mod PutLaws
 pub mod HeadLaws

@@ -27,7 +27,7 @@ use Rattle.layout.specs.Parse.{many}
 use Rattle.layout.specs.ParseHeads.{head-op}
 use Rattle.layout.specs.Arity.{arity, head-wants}
 use Rattle.layout.specs.Fitting.{shape-fits}
-use Rattle.showing.specs.Shown.{nameIn, firstIn, second, paramsIn, after, afterIn, operatorIn, headIn, Shown·all}
+use Rattle.showing.specs.TextOfWords.{nameIn, firstIn, second, paramsIn, after, afterIn, operatorIn, headIn, TextOfWords·all}
 use Rattle.showing.specs.Spelling.{Spells}
 use Rattle.showing.specs.Says.{Says, plainly, naming}
 use Rattle.showing.specs.Words.{name-shown, tag-shown, asked-parts}
@@ -64,14 +64,14 @@ module _ (t : List ℕ) (ws : List Bytes) (sp : Spells t ws) where
 
   module _ (m : Name) where
     call-says : (n : ℕ) → OpFits (call m) n → Says t (opNode (call m) n) (opWord (call m)) [] (printName ws m ∷ []) n
-    unfolding opWord Shown·all bytes
+    unfolding opWord TextOfWords·all bytes
     call-says zero f = absurd f
     call-says (suc n) f =
         let (e, a, _, _) = asked-parts 13 m n (f .0) (f .1) in
         naming (rw e) (tagged m) (tag-shown t ws sp m (f .0)) (rw e) (rw (e, a)) (count (call m) (suc n) f) (omega arith) (omega (arith, f .1))
 
     send-says : (n : ℕ) → OpFits (send m) n → Says t (opNode (send m) n) (opWord (send m)) [] (printName ws m ∷ []) n
-    unfolding opWord Shown·all bytes
+    unfolding opWord TextOfWords·all bytes
     send-says zero f = absurd f
     send-says (suc n) f =
         let (e, a, _, _) = asked-parts 14 m n (f .0) (f .1) in
@@ -107,7 +107,7 @@ module _ (t : List ℕ) (ws : List Bytes) (sp : Spells t ws) where
   kept-names _ (SrcRow.isSend m) = refl
 
   pub src-says : (o : SrcOp) (n : ℕ) → writable (length ws) o n ≡ true → Says t (node (srcKind o) (srcPayload o n)) (srcWord o) [] (srcNames ws o) n
-  unfolding srcWord srcNames printName Shown·all bytes
+  unfolding srcWord srcNames printName TextOfWords·all bytes
   src-says (kept o) n h = transp (λ ns. Says t (opNode (written o) n) (opWord (written o)) [] ns n) (sym (kept-names o (src-row o))) (op-says (written o) n (fits (written o) n h))
   src-says (ask m) zero h = absurd (false≢true h)
   src-says (ask m) (suc n) h =

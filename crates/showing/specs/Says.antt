@@ -15,7 +15,7 @@ use Rattle.layout.specs.Numbers.{payload, fieldKind, nameLimit, noName, taggedL
 use Rattle.layout.specs.Arity.{arity, arity-header}
 use Rattle.layout.specs.Kinds.{Words}
 use Rattle.layout.specs.KindLaws.{row-none}
-use Rattle.showing.specs.Shown.{nameIn, firstIn, second, placesIn, paramsIn, after, afterIn, count, operatorIn, headIn, Text}
+use Rattle.showing.specs.TextOfWords.{nameIn, firstIn, second, placesIn, paramsIn, after, afterIn, count, operatorIn, headIn, Text}
 
 -- ---- items
 pub behind-text : (items : List Bytes) (j : Bytes) → behind items [] ++ j ≡ behind items j

@@ -10,9 +10,9 @@ use lib.ListN.{length, drop, getD, drop-of-length-le}
 use lib.Dec.{ltb}
 use lib.Seq.{drop-cons}
 use Rattle.layout.specs.Numbers.{payload, noName}
-use Rattle.showing.specs.Writing.{most, Wrote, wrote-none, wrote-two}
-use Rattle.showing.specs.Shown.{nameIn, after, count, headIn, leafIn, operandsIn, formIn, shown}
-use Rattle.showing.specs.Codes.{Tagged, Counted, Showed}
+use Rattle.showing.specs.Writer.{most, Wrote, wrote-none, wrote-two}
+use Rattle.showing.specs.TextOfWords.{nameIn, after, count, headIn, leafIn, operandsIn, formIn, shown}
+use Rattle.showing.specs.ShowContract.{Tagged, Counted, Showed}
 
 -- nothing is written, and the words stay
 stays : (t old : List ℕ) (i o : ℕ) → o ≤ most → Showed t (record { text = []; rest = drop i t }) old o old i o

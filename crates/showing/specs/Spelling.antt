@@ -15,9 +15,9 @@ use Rattle.layout.specs.Numbers.{noName}
 use Rattle.layout.specs.Pack.{zeros, flat}
 use Rattle.layout.specs.PackLaws.{Each, pack-low, pack-high}
 use Rattle.layout.specs.Layout.{bytesNumber, threeWords, encodeWord}
-use Rattle.layout.specs.Whole.{ByteFits, WordFits}
+use Rattle.layout.specs.StateReads.{ByteFits, WordFits}
 use Rattle.layout.specs.Bits.{word-small}
-use Rattle.showing.specs.Shown.{letterIn, lettersIn, knownIn, wordIn}
+use Rattle.showing.specs.TextOfWords.{letterIn, lettersIn, knownIn, wordIn}
 
 -- ---- one word
 -- at most k letters, the first lowest

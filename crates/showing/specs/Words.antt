@@ -21,7 +21,7 @@ use Rattle.layout.specs.TermLaws.{ValueFits, NameOk}
 use Rattle.layout.specs.Parse.{parts}
 use Rattle.layout.specs.ParseHeads.{head-literal}
 use Rattle.layout.specs.Arity.{arity, head-wants}
-use Rattle.showing.specs.Shown.{wordIn, taggedIn, nameIn, openIn, placesIn, seriesIn, ownerIn, refIn, leafIn, shown, Shown·all}
+use Rattle.showing.specs.TextOfWords.{wordIn, taggedIn, nameIn, openIn, placesIn, seriesIn, ownerIn, refIn, leafIn, shown, TextOfWords·all}
 use Rattle.showing.specs.Spelling.{Spells, spelt, unspelt}
 use Rattle.showing.specs.Says.{Says, showing, plainly, naming, says-method}
 
@@ -113,34 +113,34 @@ module _ (t : List ℕ) (ws : List Bytes) (sp : Spells t ws) where
     opening key = ap {B = Bytes} (λ u. (40 ∷ key) ++ (u ++ [])) (name-shown x g)
 
     pub let-says : Says t (node 11 x) letWord (printWord ws x ∷ []) [] 2
-    unfolding Shown·all bytes
+    unfolding TextOfWords·all bytes
     let-says = let (e, f) = node-parts 11 x g in plainly (rw e) (rw (e, f) (opening letWord)) (rw e) (rw e) (omega arith)
 
     pub fn-says : Says t (node 65 x) fnWord (printWord ws x ∷ []) [] 1
-    unfolding Shown·all bytes
+    unfolding TextOfWords·all bytes
     fn-says = let (e, f) = node-parts 65 x g in plainly (rw e) (rw (e, f) (opening fnWord)) (rw e) (rw e) (omega arith)
 
     pub field-says : Says t (node fieldKind x) fieldWord (printWord ws x ∷ []) [] 1
-    unfolding Shown·all bytes
+    unfolding TextOfWords·all bytes
     field-says = let (e, f) = node-parts fieldKind x g in plainly (rw e) (rw (e, f) (opening fieldWord)) (rw e) (rw e) (omega arith)
 
     pub def-says : Says t (node 130 x) defWord (printWord ws x ∷ []) [] 1
-    unfolding Shown·all bytes
+    unfolding TextOfWords·all bytes
     def-says = let (e, f) = node-parts 130 x g in plainly (rw e) (rw (e, f) (opening defWord)) (rw e) (rw e) (omega arith)
 
     pub when-says : Says t (node 67 x) whenWord [] (printWord ws x ∷ []) 2
-    unfolding Shown·all bytes
+    unfolding TextOfWords·all bytes
     when-says = let (e, f) = node-parts 67 x g in naming (rw e) x (name-shown x g) (rw e) (rw (e, f)) (rw e) (omega arith) (omega arith)
 
     pub future-says : (y : ℕ) → NameFits y → Says t (node 12 (x + nameLimit * y)) futureWord (printWord ws x ∷ printWord ws y ∷ []) [] 1
-    unfolding Shown·all bytes
+    unfolding TextOfWords·all bytes
     future-says y i =
         let (e, a, b) = future-parts x y g i in
         plainly (rw e) (rw (e, a, b) (ap₂ {C = Bytes} (λ u v. (40 ∷ futureWord) ++ (u ++ (v ++ []))) (name-shown x g) (name-shown y i))) (rw e) (rw e) (omega arith)
 
   -- ---- literals and methods
   pub literal-says : (k : Kind) (a b : ℕ) → a < 8 → b < 8 → Says t (node (kindNumber k) (a + 8 * b)) (printKind k) [] [] (a + b)
-  unfolding kindNumber printKind Shown·all bytes
+  unfolding kindNumber printKind TextOfWords·all bytes
   literal-says k a b f g = go k (head-wants _ (parts k a b) (head-literal k a b f g) .0)
     where
       kind : (k : ℕ) → node k (a + 8 * b) / payload ≡ k

@@ -2,9 +2,9 @@
 ghost use Prim.Native.Nat.{_≤_};
 ghost use lib.ListN.{length};
 ghost use Rattle.layout.specs.Numbers.{noName, headSize};
-ghost use Rattle.showing.specs.Writing.{Wrote};
-ghost use Rattle.showing.specs.Shown.{first, second, after, count, openIn, placesIn, paramsIn, operatorIn, headIn};
-ghost use Rattle.showing.specs.Codes.{Name, Tagged, Counted};
+ghost use Rattle.showing.specs.Writer.{Wrote};
+ghost use Rattle.showing.specs.TextOfWords.{first, second, after, count, openIn, placesIn, paramsIn, operatorIn, headIn};
+ghost use Rattle.showing.specs.ShowContract.{Name, Tagged, Counted};
 use crate::text;
 use layout::NAME_LIMIT;
 use layout::PAYLOAD;

@@ -2,8 +2,8 @@
 ghost use Prim.Native.Nat.{_≤_, _<_};
 ghost use lib.ListN.{length};
 ghost use Rattle.layout.specs.Numbers.{ownerLimit, headSize};
-ghost use Rattle.showing.specs.Writing.{Wrote};
-ghost use Rattle.showing.specs.Shown.{seriesIn, ownerIn, refIn, leafIn};
+ghost use Rattle.showing.specs.Writer.{Wrote};
+ghost use Rattle.showing.specs.TextOfWords.{seriesIn, ownerIn, refIn, leafIn};
 use crate::text;
 use layout::NAME_LIMIT;
 use layout::NUMBER_LIMIT;

@@ -5,8 +5,8 @@ ghost use lib.ListN.{length};
 ghost use Rattle.atlite.specs.Printer.{printNumber};
 ghost use Rattle.layout.specs.Numbers.{noName, taggedLimit, headSize};
 ghost use Rattle.layout.specs.Kinds.{wordIn as wordOf};
-ghost use Rattle.showing.specs.Writing.{Wrote};
-ghost use Rattle.showing.specs.Shown.{letterIn, lettersIn, knownIn, wordIn, taggedIn, nameIn};
+ghost use Rattle.showing.specs.Writer.{Wrote};
+ghost use Rattle.showing.specs.TextOfWords.{letterIn, lettersIn, knownIn, wordIn, taggedIn, nameIn};
 
 // The number that is no name.
 pub const NO_NAME: usize = layout::NO_NAME as usize;

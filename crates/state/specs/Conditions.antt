@@ -13,7 +13,7 @@ use Rattle.layout.specs.Numbers.{partSize, headSize, stateWords, wordSize}
 use Rattle.layout.specs.Pack.{zeros}
 use Rattle.layout.specs.Layout.{encode}
 use Rattle.dictionary.specs.Entries.{entriesHold}
-use Rattle.actor.specs.Judges.{IsPart}
+use Rattle.actor.specs.PartContract.{IsPart}
 use Rattle.kinds.specs.Table.{rows, FewAll}
 
 -- 16,384 words of 32 bits

@@ -1,5 +1,5 @@
 -- what the calls promise
-pub mod Calls
+pub mod ListCall
 -- what is to be decided of words, and that it is whether they are a state
 pub mod Conditions
 pub mod StateLaws

@@ -18,19 +18,19 @@ use Rattle.atlite.specs.Limits.{full, withinActor, withinLimits}
 use Rattle.atlite.specs.Valid.{IsActor, IsState, MayHold}
 use Rattle.atlite.specs.ValidTest.{holdable}
 use Rattle.atlite.specs.Facts.{none-some, and₂, both₂}
-use Rattle.invariant.specs.Growing.{actor-up}
+use Rattle.invariant.specs.Monotonicity.{actor-up}
 use Rattle.invariant.specs.Tests.{hold-to, hold-from}
 use Rattle.layout.specs.Numbers.{partSize, headSize, partsSize, tailSize, stateWords, wordSize}
 use Rattle.layout.specs.Pack.{zeros, pad, flat}
 use Rattle.layout.specs.PackLaws.{Each, pad-front, length-zeros, length-flat}
 use Rattle.layout.specs.Layout.{encodeActor, encodeWord, encode}
 use Rattle.layout.specs.Parts.{ActorFits, actor-length}
-use Rattle.layout.specs.Whole.{StateFits, topWords, actors-parts, words-three, count0, count1, actors-at, words-are}
+use Rattle.layout.specs.StateReads.{StateFits, topWords, actors-parts, words-three, count0, count1, actors-at, words-are}
 use Rattle.layout.specs.Writes.{zeros-split}
-use Rattle.layout.specs.Holds.{state-fits}
+use Rattle.layout.specs.StateFits.{state-fits}
 use Rattle.dictionary.specs.Entries.{entriesAt, entriesHold}
 use Rattle.dictionary.specs.EntryLaws.{entries-encoded, length-entries}
-use Rattle.actor.specs.Judges.{IsPart}
+use Rattle.actor.specs.PartContract.{IsPart}
 use Rattle.wellformed.specs.Kinds.{allowed, futureBy}
 use Rattle.kinds.specs.Table.{rows, FewAll}
 use Rattle.kinds.specs.KindLaws.{rowOf, parts-rows, parts-few, allowed-holdable, future-is}

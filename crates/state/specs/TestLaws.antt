@@ -19,7 +19,7 @@ use Rattle.layout.specs.Laws.{state-of-iff, state-length}
 use Rattle.layout.specs.Meaning.{stateIn}
 use Rattle.words.specs.Runs.{Same}
 use Rattle.dictionary.specs.Entries.{entriesHold}
-use Rattle.actor.specs.Judges.{Decides, IsPart}
+use Rattle.actor.specs.PartContract.{Decides, IsPart}
 use Rattle.kinds.specs.Table.{Tabled}
 use Rattle.state.specs.Conditions.{HeadHolds, PartsHold, kindsFor, AreState}
 use Rattle.state.specs.StateLaws.{holds-state, state-holds}

@@ -18,7 +18,7 @@ use Rattle.layout.specs.Parse.{valueIn, valueAt, nameOf}
 use Rattle.layout.specs.TermReading.{seriesIn, refIn}
 use Rattle.heap.specs.declared.EntityNo.{EntityNo}
 use Rattle.heap.specs.declared.EntityNo.the-variants.{Made, Copied}
-use Rattle.heap.specs.Numbered.{seriesOf, numberOf, EntityIn}
+use Rattle.heap.specs.EntityNumbers.{seriesOf, numberOf, EntityIn}
 use Rattle.wellformed.specs.Kinds.{kindAt, kindOf, visibleKind, allowed}
 use Rattle.wellformed.specs.Words.{within, holds, sendIn, callIn, lone}
 

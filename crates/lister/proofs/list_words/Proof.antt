@@ -1,5 +1,5 @@
--- `list_words` meets its contract, by the laws of `Lists`. Assumes nothing.
-use Rattle.lister.specs.Lists.{laws}
+-- `list_words` meets its contract, by the laws of `ListContract`. Assumes nothing.
+use Rattle.lister.specs.ListContract.{laws}
 use Rattle.lister.proofs.list_words.Statement.{statement}
 use Rattle.lister.proofs.list_words.Tie as tie
 

@@ -1,7 +1,7 @@
 -- `put_kind` meets its contract, by the laws of `SlotLaws`. Assumes nothing.
 use borrow.Author.Needs.{needs}
 use Rattle.atlite.specs.Base.{bytes}
-use Rattle.lister.specs.Listed.{kindIn}
+use Rattle.lister.specs.TextOfState.{kindIn}
 use Rattle.lister.specs.SlotLaws.{kinds}
 use Rattle.lister.proofs.put_kind.Statement.{statement}
 use Rattle.lister.proofs.put_kind.Tie as tie

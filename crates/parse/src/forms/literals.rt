@@ -5,7 +5,7 @@ ghost use lib.ListN.{length};
 ghost use Rattle.atlite.specs.Table.{countFields, countMethods};
 ghost use Rattle.words.specs.Wide.{wideFields, wideMethods};
 ghost use Rattle.parse.specs.Atoms.{Ready};
-ghost use Rattle.parse.specs.Steps.{Place, Ended, Reads, Lists, literals, literalWords, fieldsFrom, fieldAt, methodsFrom, methodAt};
+ghost use Rattle.parse.specs.DescentContract.{Place, Ended, Reads, Lists, literals, literalWords, fieldsFrom, fieldAt, methodsFrom, methodAt};
 use crate::forms::one;
 use crate::headers::Header;
 use crate::headers::method_head;

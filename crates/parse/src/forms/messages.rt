@@ -5,7 +5,7 @@ ghost use lib.ListN.{length};
 ghost use Rattle.atlite.specs.Script.{countSrcs};
 ghost use Rattle.words.specs.Wide.{wideSrcs};
 ghost use Rattle.parse.specs.Atoms.{Ready};
-ghost use Rattle.parse.specs.Steps.{Place, Argued, Reads, Lists, sends, sendWords, argsFrom};
+ghost use Rattle.parse.specs.DescentContract.{Place, Argued, Reads, Lists, sends, sendWords, argsFrom};
 use crate::forms::spaced;
 use crate::names::Name;
 use crate::names::spaced_word;

@@ -2,7 +2,7 @@
 use borrow.Author.Needs.{needs}
 use mathlib.Core.Path.{_≡_}
 use lib.ListN.{length}
-use Rattle.printer.specs.Codes.{Lined}
+use Rattle.printer.specs.LineContract.{Lined}
 use Rattle.printer.specs.ShowLaws.{line-laws}
 use Rattle.printer.proofs.show_lines.Statement.{statement}
 use Rattle.printer.proofs.show_lines.Tie as tie

@@ -1,5 +1,5 @@
 -- Each way to return has its law. Assumes nothing.
-use Rattle.scan.specs.Scans.{laws}
+use Rattle.scan.specs.DictionaryLaws.{laws}
 use Rattle.scan.proofs.add.Statement.{statement}
 use Rattle.scan.proofs.add.Tie as tie
 

@@ -2,8 +2,8 @@
 use mathlib.Core.Path.{_≡_}
 use Prim.Native.Nat.{_-_}
 use lib.ListN.{length}
-use Rattle.scan.specs.Codes.{Scanning}
-use Rattle.scan.specs.Scans.{laws}
+use Rattle.scan.specs.WordNumbers.{Scanning}
+use Rattle.scan.specs.DictionaryLaws.{laws}
 use Rattle.scan.proofs.runs.Statement.{statement}
 use Rattle.scan.proofs.runs.Tie as tie
 

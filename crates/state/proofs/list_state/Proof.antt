@@ -1,5 +1,5 @@
 -- `state::list_state` meets its contract. Assumes nothing.
-use Rattle.state.specs.Calls.{laws}
+use Rattle.state.specs.ListCall.{laws}
 use Rattle.state.proofs.list_state.Statement.{statement}
 use Rattle.state.proofs.list_state.Tie as tie
 

@@ -1,5 +1,5 @@
 -- `state::list_text` meets its contract. Assumes nothing.
-use Rattle.state.specs.Calls.{laws}
+use Rattle.state.specs.ListCall.{laws}
 use Rattle.state.proofs.list_text.Statement.{statement}
 use Rattle.state.proofs.list_text.Tie as tie
 

@@ -1,5 +1,5 @@
 -- `state::measure` meets its contract. Assumes nothing.
-use Rattle.state.specs.Calls.{laws}
+use Rattle.state.specs.ListCall.{laws}
 use Rattle.state.proofs.measure.Statement.{statement}
 use Rattle.state.proofs.measure.Tie as tie
 

@@ -1,5 +1,5 @@
 -- `messages::waiting` meets its contract. The measure is what is left of the messages. Assumes nothing.
-use Rattle.actor.specs.MessageSteps.{waiting-laws}
+use Rattle.actor.specs.MessageLaws.{waiting-laws}
 use Prim.Native.Nat.{ℕ, _<_}
 use borrow.Fn.Kinds.{In}
 use borrow.Fn.PlainCycle.{Measures, is, falls, and}

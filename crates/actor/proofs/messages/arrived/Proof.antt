@@ -1,5 +1,5 @@
 -- `messages::arrived` meets its contract. Assumes nothing.
-use Rattle.actor.specs.MessageSteps.{arrived-laws}
+use Rattle.actor.specs.MessageLaws.{arrived-laws}
 use Rattle.actor.proofs.messages.arrived.Statement.{statement}
 use Rattle.actor.proofs.messages.arrived.Tie as tie
 

@@ -1,5 +1,5 @@
 -- `messages::sent` meets its contract. Assumes nothing.
-use Rattle.actor.specs.MessageSteps.{sent-laws}
+use Rattle.actor.specs.MessageLaws.{sent-laws}
 use Rattle.actor.proofs.messages.sent.Statement.{statement}
 use Rattle.actor.proofs.messages.sent.Tie as tie
 

@@ -1,5 +1,5 @@
 -- `messages::waits` meets its contract. Assumes nothing.
-use Rattle.actor.specs.MessageSteps.{waits-laws}
+use Rattle.actor.specs.MessageLaws.{waits-laws}
 use Rattle.actor.proofs.messages.waits.Statement.{statement}
 use Rattle.actor.proofs.messages.waits.Tie as tie
 

@@ -1,5 +1,5 @@
 -- `part::counts` meets its contract. Assumes nothing.
-use Rattle.actor.specs.PartSteps.{counts-laws}
+use Rattle.actor.specs.PartLaws.{counts-laws}
 use Rattle.actor.proofs.part.counts.Statement.{statement}
 use Rattle.actor.proofs.part.counts.Tie as tie
 

@@ -1,5 +1,5 @@
 -- `part::end` meets its contract. Assumes nothing.
-use Rattle.actor.specs.PartSteps.{end-laws}
+use Rattle.actor.specs.PartLaws.{end-laws}
 use Rattle.actor.proofs.part.end.Statement.{statement}
 use Rattle.actor.proofs.part.end.Tie as tie
 

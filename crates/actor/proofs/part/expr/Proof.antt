@@ -1,5 +1,5 @@
 -- `part::expr` meets its contract. Assumes nothing.
-use Rattle.actor.specs.PartSteps.{expr-laws}
+use Rattle.actor.specs.PartLaws.{expr-laws}
 use Rattle.actor.proofs.part.expr.Statement.{statement}
 use Rattle.actor.proofs.part.expr.Tie as tie
 

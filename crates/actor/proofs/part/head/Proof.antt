@@ -1,5 +1,5 @@
 -- `part::head` meets its contract. Assumes nothing.
-use Rattle.actor.specs.PartSteps.{head-laws}
+use Rattle.actor.specs.PartLaws.{head-laws}
 use Rattle.actor.proofs.part.head.Statement.{statement}
 use Rattle.actor.proofs.part.head.Tie as tie
 

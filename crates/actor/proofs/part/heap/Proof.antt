@@ -1,5 +1,5 @@
 -- `part::heap` meets its contract. Assumes nothing.
-use Rattle.actor.specs.PartSteps.{heap-laws}
+use Rattle.actor.specs.PartLaws.{heap-laws}
 use Rattle.actor.proofs.part.heap.Statement.{statement}
 use Rattle.actor.proofs.part.heap.Tie as tie
 

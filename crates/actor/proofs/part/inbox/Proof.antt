@@ -1,5 +1,5 @@
 -- `part::inbox` meets its contract. Assumes nothing.
-use Rattle.actor.specs.PartSteps.{inbox-part-laws}
+use Rattle.actor.specs.PartLaws.{inbox-part-laws}
 use Rattle.actor.proofs.part.inbox.Statement.{statement}
 use Rattle.actor.proofs.part.inbox.Tie as tie
 

@@ -1,5 +1,5 @@
 -- `part::is_actor` meets its contract. Assumes nothing.
-use Rattle.actor.specs.PartSteps.{actor-laws}
+use Rattle.actor.specs.PartLaws.{actor-laws}
 use Rattle.actor.proofs.part.is_actor.Statement.{statement}
 use Rattle.actor.proofs.part.is_actor.Tie as tie
 

@@ -1,5 +1,5 @@
 -- `part::rest` meets its contract. Assumes nothing.
-use Rattle.actor.specs.PartSteps.{rest-laws}
+use Rattle.actor.specs.PartLaws.{rest-laws}
 use Rattle.actor.proofs.part.rest.Statement.{statement}
 use Rattle.actor.proofs.part.rest.Tie as tie
 

@@ -1,5 +1,5 @@
 -- `part::waiting` meets its contract. Assumes nothing.
-use Rattle.actor.specs.PartSteps.{waiting-part-laws}
+use Rattle.actor.specs.PartLaws.{waiting-part-laws}
 use Rattle.actor.proofs.part.waiting.Statement.{statement}
 use Rattle.actor.proofs.part.waiting.Tie as tie
 

@@ -1,6 +1,6 @@
 -- `slots::copied` meets its contract: the slots that are left decide where all end. Assumes nothing.
 use Rattle.layout.specs.Numbers.{bodiesSize}
-use Rattle.actor.specs.SlotSteps.{slots-laws, Left}
+use Rattle.actor.specs.SlotLaws.{slots-laws, Left}
 use Rattle.actor.specs.Tests.{copiedEnd}
 use Rattle.actor.specs.Bodies.{methodsReach}
 use mathlib.Core.Bool.{true, false}

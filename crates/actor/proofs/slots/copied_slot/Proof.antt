@@ -1,5 +1,5 @@
 -- `slots::copied_slot` meets its contract. Assumes nothing.
-use Rattle.actor.specs.SlotSteps.{copied-slot-laws}
+use Rattle.actor.specs.SlotLaws.{copied-slot-laws}
 use Rattle.actor.proofs.slots.copied_slot.Statement.{statement}
 use Rattle.actor.proofs.slots.copied_slot.Tie as tie
 

@@ -1,5 +1,5 @@
 -- `slots::fields` meets its contract. Assumes nothing.
-use Rattle.actor.specs.SlotSteps.{fields-laws}
+use Rattle.actor.specs.SlotLaws.{fields-laws}
 use Rattle.actor.proofs.slots.fields.Statement.{statement}
 use Rattle.actor.proofs.slots.fields.Tie as tie
 

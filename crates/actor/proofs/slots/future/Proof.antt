@@ -1,5 +1,5 @@
 -- `slots::future` meets its contract. Assumes nothing.
-use Rattle.actor.specs.SlotSteps.{future-laws}
+use Rattle.actor.specs.SlotLaws.{future-laws}
 use Rattle.actor.proofs.slots.future.Statement.{statement}
 use Rattle.actor.proofs.slots.future.Tie as tie
 

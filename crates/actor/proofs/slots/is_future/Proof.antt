@@ -1,5 +1,5 @@
 -- `slots::is_future` meets its contract. Assumes nothing.
-use Rattle.actor.specs.SlotSteps.{kind-laws}
+use Rattle.actor.specs.SlotLaws.{kind-laws}
 use Rattle.actor.proofs.slots.is_future.Statement.{statement}
 use Rattle.actor.proofs.slots.is_future.Tie as tie
 

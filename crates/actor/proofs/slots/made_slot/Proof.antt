@@ -1,5 +1,5 @@
 -- `slots::made_slot` meets its contract. Assumes nothing.
-use Rattle.actor.specs.SlotSteps.{made-slot-laws}
+use Rattle.actor.specs.SlotLaws.{made-slot-laws}
 use Rattle.actor.proofs.slots.made_slot.Statement.{statement}
 use Rattle.actor.proofs.slots.made_slot.Tie as tie
 
@@ -15,11 +15,11 @@ made-slot-spec =
     (λ c κs. search made-slot-laws)  -- object-requires
     (λ c κs. search made-slot-laws)  -- object-requires-2
     (λ c κs. search made-slot-laws)  -- open-requires
-    (λ c κs. search made-slot-laws)  -- reach-requires
+    (λ c κs. search made-slot-laws)  -- end-if-requires
     (λ c κs. search made-slot-laws)  -- settled-requires
-    (λ c κs. search made-slot-laws)  -- reach-requires-2
+    (λ c κs. search made-slot-laws)  -- end-if-requires-2
     (λ c κs. search made-slot-laws)  -- resolver-requires
-    (λ c κs. search made-slot-laws)  -- reach-requires-3
+    (λ c κs. search made-slot-laws)  -- end-if-requires-3
     (λ c. search made-slot-laws)  -- returns-2
     (λ c. search made-slot-laws)  -- returns-3
     (λ c. search made-slot-laws)  -- returns-4

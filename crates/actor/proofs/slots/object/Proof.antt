@@ -1,5 +1,5 @@
 -- `slots::object` meets its contract. Assumes nothing.
-use Rattle.actor.specs.SlotSteps.{object-laws}
+use Rattle.actor.specs.SlotLaws.{object-laws}
 use Rattle.actor.proofs.slots.object.Statement.{statement}
 use Rattle.actor.proofs.slots.object.Tie as tie
 

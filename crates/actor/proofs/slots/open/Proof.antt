@@ -1,5 +1,5 @@
 -- `slots::open` meets its contract. Assumes nothing.
-use Rattle.actor.specs.SlotSteps.{open-laws}
+use Rattle.actor.specs.SlotLaws.{open-laws}
 use Rattle.actor.proofs.slots.open.Statement.{statement}
 use Rattle.actor.proofs.slots.open.Tie as tie
 

@@ -1,5 +1,5 @@
 -- `slots::own_future` meets its contract. Assumes nothing.
-use Rattle.actor.specs.SlotSteps.{own-laws}
+use Rattle.actor.specs.SlotLaws.{own-laws}
 use Rattle.actor.proofs.slots.own_future.Statement.{statement}
 use Rattle.actor.proofs.slots.own_future.Tie as tie
 

@@ -1,5 +1,5 @@
 -- `slots::plain` meets its contract. Assumes nothing.
-use Rattle.actor.specs.SlotSteps.{plain-laws}
+use Rattle.actor.specs.SlotLaws.{plain-laws}
 use Rattle.actor.proofs.slots.plain.Statement.{statement}
 use Rattle.actor.proofs.slots.plain.Tie as tie
 

@@ -1,5 +1,5 @@
 -- `slots::resolver` meets its contract. Assumes nothing.
-use Rattle.actor.specs.SlotSteps.{resolver-laws}
+use Rattle.actor.specs.SlotLaws.{resolver-laws}
 use Rattle.actor.proofs.slots.resolver.Statement.{statement}
 use Rattle.actor.proofs.slots.resolver.Tie as tie
 

@@ -1,5 +1,5 @@
 -- `slots::settled` meets its contract. Assumes nothing.
-use Rattle.actor.specs.SlotSteps.{settled-laws}
+use Rattle.actor.specs.SlotLaws.{settled-laws}
 use Rattle.actor.proofs.slots.settled.Statement.{statement}
 use Rattle.actor.proofs.slots.settled.Tie as tie
 

@@ -1,5 +1,5 @@
 -- `values::among` meets its contract. The measure is what is left of the names. Assumes nothing.
-use Rattle.actor.specs.ValueSteps.{among-laws}
+use Rattle.actor.specs.ValueLaws.{among-laws}
 use Prim.Native.Nat.{ℕ, _<_}
 use borrow.Fn.Kinds.{In}
 use borrow.Fn.PlainCycle.{Measures, is, falls, and}

@@ -1,5 +1,5 @@
 -- `values::values` meets its contract: the values that are left decide of all. Assumes nothing.
-use Rattle.actor.specs.ValueSteps.{values-laws, Left}
+use Rattle.actor.specs.ValueLaws.{values-laws, Left}
 use Prim.Native.Nat.{_+_, _≤_}
 use lib.ListN.{length}
 use Rattle.actor.proofs.values.values.Statement.{statement}

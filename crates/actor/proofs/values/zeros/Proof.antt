@@ -1,5 +1,5 @@
 -- `values::zeros` meets its contract. Assumes nothing.
-use Rattle.actor.specs.ValueSteps.{zeros-laws}
+use Rattle.actor.specs.ValueLaws.{zeros-laws}
 use Rattle.actor.proofs.values.zeros.Statement.{statement}
 use Rattle.actor.proofs.values.zeros.Tie as tie
 

@@ -1,5 +1,5 @@
 -- `table::clear` meets its contract. The loop's invariant: what is left to clear, cleared, gives what was asked. Assumes nothing.
-use Rattle.checks.specs.Writing.{laws, Clearing}
+use Rattle.checks.specs.TableWriteLaws.{laws, Clearing}
 use mathlib.Core.Path.{_≡_}
 use Prim.Native.Nat.{_≤_, _-_}
 use lib.ListN.{length}

@@ -1,5 +1,5 @@
 -- `table::method_word` meets its contract: every sum is below 2^32, since each digit is a remainder. Assumes nothing.
-use Rattle.checks.specs.Writing.{laws}
+use Rattle.checks.specs.TableWriteLaws.{laws}
 use Rattle.checks.proofs.table.method_word.Statement.{statement}
 use Rattle.checks.proofs.table.method_word.Tie as tie
 

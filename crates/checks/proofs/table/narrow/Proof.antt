@@ -1,5 +1,5 @@
 -- `table::narrow` meets its contract: one law for each kind whose payload changes, and one for all others. Assumes nothing.
-use Rattle.checks.specs.Writing.{laws}
+use Rattle.checks.specs.TableWriteLaws.{laws}
 use Rattle.checks.proofs.table.narrow.Statement.{statement}
 use Rattle.checks.proofs.table.narrow.Tie as tie
 

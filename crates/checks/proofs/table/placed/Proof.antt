@@ -1,5 +1,5 @@
 -- `table::placed` meets its contract. Assumes nothing.
-use Rattle.checks.specs.Writing.{laws}
+use Rattle.checks.specs.TableWriteLaws.{laws}
 use Rattle.checks.proofs.table.placed.Statement.{statement}
 use Rattle.checks.proofs.table.placed.Tie as tie
 

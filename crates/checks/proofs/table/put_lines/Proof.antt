@@ -1,5 +1,5 @@
 -- `table::put_lines` meets its contract. The loop's invariant: the words left, written, give what was asked. Assumes nothing.
-use Rattle.checks.specs.Writing.{line-laws, Lining}
+use Rattle.checks.specs.TableWriteLaws.{line-laws, Lining}
 use mathlib.Core.Path.{_≡_}
 use Prim.Native.Nat.{_≤_, _-_}
 use lib.ListN.{length}

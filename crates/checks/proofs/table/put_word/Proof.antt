@@ -1,5 +1,5 @@
 -- `table::put_word` meets its contract: three words, one after another. Assumes nothing.
-use Rattle.checks.specs.Writing.{laws}
+use Rattle.checks.specs.TableWriteLaws.{laws}
 use Rattle.checks.proofs.table.put_word.Statement.{statement}
 use Rattle.checks.proofs.table.put_word.Tie as tie
 

@@ -1,5 +1,5 @@
 -- `table::put_words` meets its contract. The loop's invariant: the dictionary's words left, written, give what was asked. Assumes nothing.
-use Rattle.checks.specs.Writing.{laws, Wording}
+use Rattle.checks.specs.TableWriteLaws.{laws, Wording}
 use mathlib.Core.Path.{_≡_}
 use Prim.Native.Nat.{_-_}
 use lib.ListN.{length}

@@ -1,5 +1,5 @@
 -- `table::table_word` meets its contract: a kind below 256 leaves the word below 2^32. Assumes nothing.
-use Rattle.checks.specs.Writing.{laws}
+use Rattle.checks.specs.TableWriteLaws.{laws}
 use Rattle.checks.proofs.table.table_word.Statement.{statement}
 use Rattle.checks.proofs.table.table_word.Tie as tie
 

@@ -1,5 +1,5 @@
 -- `table::write_table` meets its contract: the regions are written in order, and together are the table (`written`). Assumes nothing.
-use Rattle.checks.specs.Written.{laws}
+use Rattle.checks.specs.TableRegions.{laws}
 use Rattle.checks.proofs.table.write_table.Statement.{statement}
 use Rattle.checks.proofs.table.write_table.Tie as tie
 

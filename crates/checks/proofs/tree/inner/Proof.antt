@@ -1,5 +1,5 @@
 -- `tree::inner` meets its contract, as `outer` does. Assumes nothing.
-use Rattle.checks.specs.TreeCode.{laws}
+use Rattle.checks.specs.TreeContract.{laws}
 use Rattle.checks.proofs.tree.inner.Statement.{statement}
 use Rattle.checks.proofs.tree.inner.Tie as tie
 

@@ -1,5 +1,5 @@
 -- `tree::outer` meets its contract. Assumes nothing.
-use Rattle.checks.specs.TreeCode.{laws}
+use Rattle.checks.specs.TreeContract.{laws}
 use Rattle.checks.proofs.tree.outer.Statement.{statement}
 use Rattle.checks.proofs.tree.outer.Tie as tie
 

@@ -1,5 +1,5 @@
 -- `load_lent` meets its contract: a law for each way to return. Assumes nothing.
-use Rattle.engine.specs.Loads.{laws}
+use Rattle.engine.specs.LoadContract.{laws}
 use Rattle.engine.proofs.tables.load_lent.Statement.{statement}
 use Rattle.engine.proofs.tables.load_lent.Tie as tie
 

@@ -1,5 +1,5 @@
 -- Each way to return has its law. Assumes nothing.
-use Rattle.parse.specs.Parses.{laws}
+use Rattle.parse.specs.TextLaws.{laws}
 use Rattle.parse.proofs.lines.ends.Statement.{statement}
 use Rattle.parse.proofs.lines.ends.Tie as tie
 

@@ -1,8 +1,8 @@
 -- The lines before `at` are read. Assumes nothing.
 use Prim.Native.Nat.{_-_}
 use lib.ListN.{length}
-use Rattle.parse.specs.Parses.{Lining}
-use Rattle.parse.specs.Parses.{laws}
+use Rattle.parse.specs.TextLaws.{Lining}
+use Rattle.parse.specs.TextLaws.{laws}
 use Rattle.parse.proofs.lines.lines.Statement.{statement}
 use Rattle.parse.proofs.lines.lines.Tie as tie
 

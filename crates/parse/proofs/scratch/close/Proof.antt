@@ -1,5 +1,5 @@
 -- Each way to return has its law. Assumes nothing.
-use Rattle.parse.specs.StepLaws.{closing}
+use Rattle.parse.specs.DescentLaws.{closing}
 use Rattle.parse.proofs.scratch.close.Statement.{statement}
 use Rattle.parse.proofs.scratch.close.Tie as tie
 

@@ -1,5 +1,5 @@
 -- `bad_token` meets its contract. Assumes nothing.
-use Rattle.play.specs.Written.{laws}
+use Rattle.play.specs.Output.{laws}
 use Rattle.play.proofs.calls.bad_token.Statement.{statement}
 use Rattle.play.proofs.calls.bad_token.Tie as tie
 

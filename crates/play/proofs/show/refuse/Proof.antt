@@ -1,5 +1,5 @@
 -- `refuse` meets its contract. Assumes nothing.
-use Rattle.play.specs.Written.{laws}
+use Rattle.play.specs.Output.{laws}
 use Rattle.play.proofs.show.refuse.Statement.{statement}
 use Rattle.play.proofs.show.refuse.Tie as tie
 

@@ -1,7 +1,7 @@
 -- None of the first i words is the one that is sought. Assumes nothing.
 use Prim.Native.Nat.{_-_, _≤_}
-use Rattle.scan.specs.Codes.{Sought}
-use Rattle.scan.specs.CodeLaws.{laws}
+use Rattle.scan.specs.WordNumbers.{Sought}
+use Rattle.scan.specs.WordNumberLaws.{laws}
 use Rattle.scan.proofs.codes.find.Statement.{statement}
 use Rattle.scan.proofs.codes.find.Tie as tie
 

@@ -1,5 +1,5 @@
 -- Each way to return has its law. Assumes nothing.
-use Rattle.scan.specs.CodeLaws.{laws}
+use Rattle.scan.specs.WordNumberLaws.{laws}
 use Rattle.scan.proofs.codes.low_part.Statement.{statement}
 use Rattle.scan.proofs.codes.low_part.Tie as tie
 

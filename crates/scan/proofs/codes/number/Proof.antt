@@ -1,6 +1,6 @@
 -- What is left to take are the bytes before i. Assumes nothing.
-use Rattle.scan.specs.Codes.{Numbered}
-use Rattle.scan.specs.CodeLaws.{laws}
+use Rattle.scan.specs.WordNumbers.{Numbered}
+use Rattle.scan.specs.WordNumberLaws.{laws}
 use Rattle.scan.proofs.codes.number.Statement.{statement}
 use Rattle.scan.proofs.codes.number.Tie as tie
 

@@ -1,5 +1,5 @@
 -- By cases on the first comparison. Assumes nothing.
-use Rattle.scan.specs.CodeLaws.{laws}
+use Rattle.scan.specs.WordNumberLaws.{laws}
 use Rattle.scan.proofs.codes.same_parts.Statement.{statement}
 use Rattle.scan.proofs.codes.same_parts.Tie as tie
 

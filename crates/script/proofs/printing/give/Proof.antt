@@ -1,5 +1,5 @@
 -- `give` meets its contract: the text does not fit, or it stands in front. Assumes nothing.
-use Rattle.script.specs.Prints.{laws}
+use Rattle.script.specs.PrintContract.{laws}
 use Rattle.script.proofs.printing.give.Statement.{statement}
 use Rattle.script.proofs.printing.give.Tie as tie
 

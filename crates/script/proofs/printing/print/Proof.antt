@@ -1,6 +1,6 @@
 -- `print` meets its contract, which is what `print_table` ensures, written out. Assumes nothing.
 use borrow.Author.Needs.{needs}
-use Rattle.script.specs.Prints.{Prints}
+use Rattle.script.specs.PrintContract.{Prints}
 use Rattle.script.proofs.printing.print.Statement.{statement}
 use Rattle.script.proofs.printing.print.Tie as tie
 

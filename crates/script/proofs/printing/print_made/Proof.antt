@@ -1,5 +1,5 @@
 -- `print_made` meets its contract: the bytes are the text of a table, or no table has the words. Assumes nothing.
-use Rattle.script.specs.Prints.{laws}
+use Rattle.script.specs.PrintContract.{laws}
 use Rattle.script.proofs.printing.print_made.Statement.{statement}
 use Rattle.script.proofs.printing.print_made.Tie as tie
 

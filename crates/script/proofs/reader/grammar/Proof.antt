@@ -1,5 +1,5 @@
--- `grammar` meets its contract, by the laws of `Parsing`. Assumes nothing.
-use Rattle.script.specs.Parsing.{laws}
+-- `grammar` meets its contract, by the laws of `ParserAnswer`. Assumes nothing.
+use Rattle.script.specs.ParserAnswer.{laws}
 use Rattle.script.proofs.reader.grammar.Statement.{statement}
 use Rattle.script.proofs.reader.grammar.Tie as tie
 

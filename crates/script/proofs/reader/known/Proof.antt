@@ -1,5 +1,5 @@
--- `known` meets its contract, by the laws of `Judging`. Assumes nothing.
-use Rattle.script.specs.Judging.{laws}
+-- `known` meets its contract, by the laws of `ReaderCauses`. Assumes nothing.
+use Rattle.script.specs.ReaderCauses.{laws}
 use Rattle.script.proofs.reader.known.Statement.{statement}
 use Rattle.script.proofs.reader.known.Tie as tie
 

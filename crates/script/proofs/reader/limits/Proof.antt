@@ -1,5 +1,5 @@
--- `limits` meets its contract, by the laws of `Judging`. Assumes nothing.
-use Rattle.script.specs.Judging.{laws}
+-- `limits` meets its contract, by the laws of `ReaderCauses`. Assumes nothing.
+use Rattle.script.specs.ReaderCauses.{laws}
 use Rattle.script.proofs.reader.limits.Statement.{statement}
 use Rattle.script.proofs.reader.limits.Tie as tie
 

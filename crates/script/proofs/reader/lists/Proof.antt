@@ -1,5 +1,5 @@
--- `lists` meets its contract, by the laws of `Judging`. Assumes nothing.
-use Rattle.script.specs.Judging.{laws}
+-- `lists` meets its contract, by the laws of `ReaderCauses`. Assumes nothing.
+use Rattle.script.specs.ReaderCauses.{laws}
 use Rattle.script.proofs.reader.lists.Statement.{statement}
 use Rattle.script.proofs.reader.lists.Tie as tie
 

@@ -1,6 +1,6 @@
 -- `read` meets its contract, which is what `read_text` ensures, written out. Assumes nothing.
 use borrow.Author.Needs.{needs}
-use Rattle.script.specs.Reads.{Reads}
+use Rattle.script.specs.ReadContract.{Reads}
 use Rattle.script.proofs.reader.read.Statement.{statement}
 use Rattle.script.proofs.reader.read.Tie as tie
 

@@ -1,5 +1,5 @@
--- `read_text` meets its contract, by the laws of `Parsing`. Assumes nothing.
-use Rattle.script.specs.Parsing.{laws}
+-- `read_text` meets its contract, by the laws of `ParserAnswer`. Assumes nothing.
+use Rattle.script.specs.ParserAnswer.{laws}
 use Rattle.script.proofs.reader.read_text.Statement.{statement}
 use Rattle.script.proofs.reader.read_text.Tie as tie
 

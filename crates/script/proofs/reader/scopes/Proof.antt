@@ -1,5 +1,5 @@
--- `scopes` meets its contract, by the laws of `Judging`. Assumes nothing.
-use Rattle.script.specs.Judging.{laws}
+-- `scopes` meets its contract, by the laws of `ReaderCauses`. Assumes nothing.
+use Rattle.script.specs.ReaderCauses.{laws}
 use Rattle.script.proofs.reader.scopes.Statement.{statement}
 use Rattle.script.proofs.reader.scopes.Tie as tie
 

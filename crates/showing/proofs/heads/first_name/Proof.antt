@@ -1,6 +1,6 @@
 -- `heads::first_name` meets its contract, by the laws of `HeadLaws`. Assumes nothing.
 use borrow.Author.Needs.{needs}
-use Rattle.showing.specs.Shown.{firstIn}
+use Rattle.showing.specs.TextOfWords.{firstIn}
 use Rattle.showing.specs.HeadLaws.{names}
 use Rattle.showing.proofs.heads.first_name.Statement.{statement}
 use Rattle.showing.proofs.heads.first_name.Tie as tie

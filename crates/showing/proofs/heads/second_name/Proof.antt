@@ -1,6 +1,6 @@
 -- `heads::second_name` meets its contract, by the laws of `HeadLaws`. Assumes nothing.
 use borrow.Author.Needs.{needs}
-use Rattle.showing.specs.Shown.{second}
+use Rattle.showing.specs.TextOfWords.{second}
 use Rattle.showing.specs.HeadLaws.{seconds}
 use Rattle.showing.proofs.heads.second_name.Statement.{statement}
 use Rattle.showing.proofs.heads.second_name.Tie as tie

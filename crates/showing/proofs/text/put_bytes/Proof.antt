@@ -3,7 +3,7 @@ use borrow.Author.Needs.{needs}
 use mathlib.Core.Path.{_≡_}
 use Prim.Native.Nat.{_-_, _≤_}
 use lib.ListN.{length, take}
-use Rattle.showing.specs.Writing.{Wrote}
+use Rattle.showing.specs.Writer.{Wrote}
 use Rattle.showing.specs.PutLaws.{laws}
 use Rattle.showing.proofs.text.put_bytes.Statement.{statement}
 use Rattle.showing.proofs.text.put_bytes.Tie as tie

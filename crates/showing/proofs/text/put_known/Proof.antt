@@ -2,7 +2,7 @@
 use borrow.Author.Needs.{needs}
 use Rattle.atlite.specs.Base.{bytes}
 use Rattle.layout.specs.Kinds.{Words}
-use Rattle.showing.specs.Shown.{knownIn}
+use Rattle.showing.specs.TextOfWords.{knownIn}
 use Rattle.showing.specs.PutLaws.{knowns}
 use Rattle.showing.proofs.text.put_known.Statement.{statement}
 use Rattle.showing.proofs.text.put_known.Tie as tie
