@@ -9,8 +9,8 @@ use lib.Dec.{eqb}
 use Rattle.atlite.specs.Base.{Result, bytes, sameBytes}
 use Rattle.atlite.specs.Lexicon.{Bytes, open′, close, space, newline, isWord, isNumber, dictionary, numberOf}
 use Rattle.atlite.specs.Script.{Src, nil, cons, Line, expression, define, join}
-use Rattle.atlite.specs.Reader.{Reading, item, eat, after, atom, readAtom, readWord, spaced, spacedWord, readItems, readOperands, readParams, readNames, readHead, readFields, readMethods, operator, readForm, readExpr, readDefinition, readLine, readLines, readScript}
-use Rattle.atlite.specs.Keywords.{Operator, bare, naming, letIn, future, fn, when, literal, operators}
+use Rattle.atlite.specs.Reader.{Reading, item, eat, after, atom, readAtom, readWord, spaced, spacedWord, readItems, readOperands, readParams, readNames, readHead, readFields, readMethods, spelled, readForm, readExpr, readDefinition, readLine, readLines, readScript}
+use Rattle.atlite.specs.Keywords.{nullWord, thisWord, Operator, bare, naming, letIn, future, fn, when, literal, operators}
 use Rattle.atlite.specs.Table.{Table, read}
 use Rattle.atlite.specs.Load.{load}
 use Rattle.atlite_calls.specs.Causes.{Caused, fine, stopped, asked, next, tested, either}
@@ -37,7 +37,7 @@ eat-fair b (c ∷ i) = tested 2 (eqb b c) refl fine
 
 atom-fair : (ws : List Bytes) (w : Bytes) → Caused (atom ws w)
 unfolding atom
-atom-fair ws w = either (isNumber w) fine (either (sameBytes w (bytes "null")) fine (either (sameBytes w (bytes "this")) fine (tested 2 (isWord w) refl (next (asked 2 (numberOf ws w) refl) λ x. fine))))
+atom-fair ws w = either (isNumber w) fine (either (sameBytes w nullWord) fine (either (sameBytes w thisWord) fine (tested 2 (isWord w) refl (next (asked 2 (numberOf ws w) refl) λ x. fine))))
 
 word-fair : (ws : List Bytes) → Fair (readWord ws)
 unfolding readWord
