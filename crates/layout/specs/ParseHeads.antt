@@ -115,10 +115,6 @@ pub head-kind : (x k : ℕ) → x / payload ≡ k → headAt x ≡ headIn k (x %
 unfolding headAt
 head-kind x k e = ap (λ i. headIn i (x % payload)) e
 
-pub head-none : (x : ℕ) → 32 ≤ x / payload → headAt x ≡ noHead
-unfolding headAt headIn headOf
-head-none x h = ap (λ r. headOf r (x % payload)) (form-none (x / payload) (omega arith))
-
 -- ---- and every term's first word has its head
 pub head-value : (v : Value) → ValueFits v → headAt (encodeValue v) ≡ leaf (val v)
 unfolding headAt Kinds headIn headOf valueIn encodeValue

@@ -61,15 +61,6 @@ module _ (n m : ℕ) (w : List ℕ) (at : ℕ) (l : Enough n w at) (k : Enough m
   pub term-fuel : parseTerm n w at ≡ parseTerm m w at
   term-fuel = one-answer (TermAt w at) (parseTerm n w at) (parseTerm m w at) (term-iff n w at l) (term-iff m w at k)
 
-  pub terms-fuel : (c : ℕ) → parseTerms n w c at ≡ parseTerms m w c at
-  terms-fuel c = one-answer (TermsAt w c at) (parseTerms n w c at) (parseTerms m w c at) (terms-iff n w at l c) (terms-iff m w at k c)
-
-  pub inits-fuel : (c : ℕ) → parseInits n w c at ≡ parseInits m w c at
-  inits-fuel c = one-answer (InitsAt w c at) (parseInits n w c at) (parseInits m w c at) (inits-iff n w at l c) (inits-iff m w at k c)
-
-  pub methods-fuel : (c : ℕ) → parseMethods n w c at ≡ parseMethods m w c at
-  methods-fuel c = one-answer (MethodsAt w c at) (parseMethods n w c at) (parseMethods m w c at) (methods-iff n w at l c) (methods-iff m w at k c)
-
 -- ---- no fuel at all
 -- As many words as there are is fuel enough at every position, and then one step takes none: what contracts of code may speak of.
 abbrev pub parse : List ℕ → ℕ → Got Term
@@ -78,22 +69,12 @@ parse w at = parseTerm (length w) w at
 pub enough : (w : List ℕ) (at : ℕ) → Enough (length w) w at
 enough w at = omega arith
 
-pub parse-fuel : (n : ℕ) (w : List ℕ) (at : ℕ) → Enough n w at → parseTerm n w at ≡ parse w at
-parse-fuel n w at l = term-fuel n (length w) w at l (enough w at)
-
 pub parse-step : (w : List ℕ) (at : ℕ) → parse w at ≡ formed (headAt (getD w at 0)) (λ i. parse w i) w (at + 1)
 unfolding parseTerm
 parse-step w at = term-fuel (length w) (suc (length w)) w at (enough w at) (omega arith)
 
 pub parse-iff : (w : List ℕ) (at : ℕ) (e : Term) (i : ℕ) → (parse w at ≡ got e i) ↔ TermAt w at e i
 parse-iff w at = term-iff (length w) w at (enough w at)
-
--- at a position stands one term at most
-pub term-unique : (w : List ℕ) (at : ℕ) (e : Term) (i : ℕ) (d : Term) (j : ℕ) → TermAt w at e i → TermAt w at d j → (e ≡ d) × (i ≡ j)
-term-unique w at e i d j h k =
-    let p = parse-iff w at e i .1 h in
-    let q = parse-iff w at d j .1 k in
-    (cc (p, q), cc (p, q))
 
 -- ---- where a term is got
 pub term-words : (e : Term) → 1 ≤ length (encodeTerm e)
@@ -104,21 +85,3 @@ term-words (op o es) = omega arith
 term-words (letIn x e d) = omega arith
 term-words (future x y e) = omega arith
 term-words (literal k fs ms) = omega arith
-
-module _ (n : ℕ) (w : List ℕ) (at : ℕ) (e : Term) (i : ℕ) (h : parseTerm n w at ≡ got e i) where
-  pub term-inside : (drop at w ≡ encodeTerm e ++ drop i w) × Fits e × (at < i) × (i ≤ length w)
-  term-inside =
-      let s = term-sound n w at e i h in
-      let b = span-inside w at i (encodeTerm e) (s .1) (term-words e) in
-      (s .1 .0, s .0, b .0, b .1)
-
-  -- the reading from the back
-  pub term-same : termAt (drop at w) ≡ e
-  unfolding termAt
-  term-same = let s = term-sound n w at e i h in ap termAt (s .1 .0) ∙ ap (first (val null)) (read-term e (drop i w) (s .0))
-
--- ---- in a region
-pub term-region : (n k : ℕ) (w : List ℕ) (at : ℕ) (e : Term) (r : List ℕ) → Fits e → Enough n w at → drop at w ≡ pad k (encodeTerm e) ++ r → parseTerm n w at ≡ got e (at + length (encodeTerm e))
-term-region n k w at e r h l d =
-    let f : drop at w ≡ encodeTerm e ++ (zeros (k - length (encodeTerm e)) ++ r) = d ∙ pad-front k (encodeTerm e) r in
-    term-iff n w at l e (at + length (encodeTerm e)) .1 (h, span-of w at (encodeTerm e) (zeros (k - length (encodeTerm e)) ++ r) f)

@@ -158,9 +158,3 @@ message-complete (message v m vs) w at r h e =
       value-read v (h .0),
       values-read vs w (at + 2) z (h .3) d2,
     )
-
-pub message-iff : (w : List ℕ) (at : ℕ) (m : Message) (i : ℕ) → (parseMessage w at ≡ got m i) ↔ MessageAt w at m i
-message-iff w at m i = (
-  message-sound w at m i,
-  λ h. message-complete m w at (drop i w) (h .0) (h .1 .0) ∙ ap (λ k. got m (at + k)) (sym (message-length m (h .0))) ∙ ap (got m) (sym (h .1 .1)),
-)

@@ -96,9 +96,6 @@ value-read (ref a s n) h =
     let l : p < payload = omega (arith, h, bit s) in
     of-node valueIn 3 p l ∙ ap some (ref-back a s n h)
 
-pub value-iff : (x : ℕ) (v : Value) → (valueAt x ≡ some v) ↔ (ValueFits v × (encodeValue v ≡ x))
-value-iff x v = (value-sound x v, λ h. ap valueAt (sym (h .1)) ∙ value-read v (h .0))
-
 -- ---- a message's name and its count
 abbrev pub NameWord : ℕ → ℕ → Name → Type 0
 NameWord t x m = NameOk m × (tagged m ≡ x + nameLimit * t)

@@ -45,10 +45,6 @@ module _ (w : List ℕ) where
   pub span-inside : (at i : ℕ) (xs : List ℕ) → Spans w at i xs → 1 ≤ length xs → (at < i) × (i ≤ length w)
   span-inside at i xs h l = let e = lengths at i xs h in let d = h .1 in (omega arith, omega arith)
 
-  -- an empty one too, where it begins within them
-  pub span-within : (at i : ℕ) (xs : List ℕ) → Spans w at i xs → at ≤ length w → (at ≤ i) × (i ≤ length w)
-  span-within at i xs h l = let e = lengths at i xs h in let d = h .1 in (omega arith, omega arith)
-
   -- no more words than are left
   pub span-short : (at i n : ℕ) (xs : List ℕ) → Spans w at i xs → length w ≤ at + n → length xs ≤ n
   span-short at i n xs h l = let e = lengths at i xs h in omega arith

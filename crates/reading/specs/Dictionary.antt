@@ -203,13 +203,3 @@ number-found t w h = go (sameBytes w (bytes "apply")) refl
         → (x : ℕ) × ((if b then some apply else place firstWord (withoutApply (wordsOf t)) w) ≡ some x)
     go true e = (apply, refl)
     go false e = place-found firstWord (withoutApply (wordsOf t)) w (without-keeps (wordsOf t) w e h)
-
--- Each word that stands in a text, first or behind a byte that is no letter or digit, has a number there.
-pub first-known : (v j : Bytes) → isWord v ≡ true → Ends j → (x : ℕ) × (numberOf (dictionary (v ++ j)) v ≡ some x)
-unfolding wordsOf
-first-known v j h e = number-found (v ++ j) v (first-found v j [] h e)
-
-pub later-known : (p : Bytes) (b : ℕ) (v j : Bytes) → inWord b ≡ false → isWord v ≡ true → Ends j
-    → (x : ℕ) × (numberOf (dictionary (p ++ (b ∷ (v ++ j)))) v ≡ some x)
-unfolding wordsOf
-later-known p b v j n h e = number-found (p ++ (b ∷ (v ++ j))) v (later-found p b v j [] [] n h e)

@@ -115,6 +115,3 @@ read-table t T h = read-exact t T .0 h .0
 
 pub print-read : (t : Bytes) (T : Table) → read operators t ≡ done T → textOf T ≡ t
 print-read t T h = read-exact t T .0 h .1
-
-pub table-test : (T : Table) → (read operators (textOf T) ≡ done T) ↔ IsTable T
-table-test T = (read-table (textOf T) T, table-read T)
