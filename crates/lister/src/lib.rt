@@ -28,12 +28,6 @@ ghost use Rattle.lister.specs.SlotContract.{Slotted};
 // The number that is no name.
 const NO_NAME: usize = layout::NO_NAME as usize;
 
-// A field's header with no name.
-const FIELD: u32 = HEADER;
-
-// No term has more words in one another.
-const DEEP: usize = BODIES_SIZE;
-
 // Where to read methods and waiting messages, and where to write next.
 pub struct Spot {
     pub body: usize,
@@ -118,7 +112,7 @@ fn show_fields(t: &[u32], n: usize, x: u32, at: usize, out: &mut [u8], o: usize)
         return o;
     }
     let p = showing::put(b' ', out, o);
-    let r = showing::show_form(t, FIELD + x % NAME_LIMIT, at, out, p, 1);
+    let r = showing::show_form(t, HEADER + x % NAME_LIMIT, at, out, p, 1);
     show_fields(t, n - 1, x / NAME_LIMIT, r.at, out, r.o)
 }
 
@@ -198,7 +192,7 @@ fn show_parts(
     ensures { λ r. ⌜ Slotted (now (t .entry)) (partsIn (now (t .entry)) h x (drop at (now (t .entry))) (drop body (now (t .entry))) (drop wait (now (t .entry)))) (now (out .entry)) o (now (out .exit)) (r .body) (r .wait) (r .o) ⌝ }
 {
     let a = show_fields(t, (h / 8 % 8) as usize, x, at, out, o);
-    let m = showing::show_operands(t, body, NO_NAME, (h / 64 % 8) as usize, out, a, DEEP);
+    let m = showing::show_operands(t, body, NO_NAME, (h / 64 % 8) as usize, out, a, BODIES_SIZE);
     let u = show_waiting(t, wait, h / SLOT_UNIT, out, m.o, 16);
     let p = put_end(out, u.o);
     Spot {
@@ -286,7 +280,7 @@ fn show_expr(t: &[u32], at: usize, out: &mut [u8], o: usize) -> usize
     ensures { λ r. ⌜ Wrote (now (out .entry)) o (exprIn (now (t .entry)) (drop at (now (t .entry)))) (now (out .exit)) r ⌝ }
 {
     let p = showing::put(b' ', out, o);
-    let r = showing::show(t, at, out, p, DEEP);
+    let r = showing::show(t, at, out, p, BODIES_SIZE);
     put_end(out, r.o)
 }
 
