@@ -6,11 +6,11 @@
 mod answers;
 mod calls;
 mod line;
-mod schedule;
+mod runs;
 mod show;
 mod start;
 
 pub use calls::ROOM;
 pub use calls::replay;
 pub use line::INPUT;
-pub use schedule::play;
+pub use runs::play;

@@ -14,7 +14,7 @@ use Rattle.layout.specs.Pack.{zeros}
 use Rattle.layout.specs.Layout.{encode}
 use Rattle.dictionary.specs.Entries.{entriesHold}
 use Rattle.actor.specs.PartContract.{IsPart}
-use Rattle.kinds.specs.Table.{rows, FewAll}
+use Rattle.entity_kinds.specs.Table.{rows, FewAll}
 
 -- 16,384 words of 32 bits
 pub record Words (w : List ℕ) : Type 0 where

@@ -32,8 +32,8 @@ use Rattle.dictionary.specs.Entries.{entriesAt, entriesHold}
 use Rattle.dictionary.specs.EntryLaws.{entries-encoded, length-entries}
 use Rattle.actor.specs.PartContract.{IsPart}
 use Rattle.wellformed.specs.Kinds.{allowed, futureBy}
-use Rattle.kinds.specs.Table.{rows, FewAll}
-use Rattle.kinds.specs.KindLaws.{rowOf, parts-rows, parts-few, allowed-holdable, future-is}
+use Rattle.entity_kinds.specs.Table.{rows, FewAll}
+use Rattle.entity_kinds.specs.KindLaws.{rowOf, parts-rows, parts-few, allowed-holdable, future-is}
 use Rattle.state.specs.Conditions.{Words, HeadHolds, PartsHold, kindsFor, Holds, AreState}
 
 -- ---- what an actor may hold, by the kinds and by the state

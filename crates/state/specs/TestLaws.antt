@@ -20,7 +20,7 @@ use Rattle.layout.specs.Meaning.{stateIn}
 use Rattle.words.specs.Runs.{Same}
 use Rattle.dictionary.specs.Entries.{entriesHold}
 use Rattle.actor.specs.PartContract.{Decides, IsPart}
-use Rattle.kinds.specs.Table.{Tabled}
+use Rattle.entity_kinds.specs.Table.{Tabled}
 use Rattle.state.specs.Conditions.{HeadHolds, PartsHold, kindsFor, AreState}
 use Rattle.state.specs.StateLaws.{holds-state, state-holds}
 

@@ -73,7 +73,7 @@ fn are_actors(w: &[u32]) -> bool
     let n = wide(w[0]);
     let k = w[1];
     let mut kinds = [0u8; 192];
-    if kinds::fill_kinds(w, n, &mut kinds) {
+    if entity_kinds::fill_kinds(w, n, &mut kinds) {
         return are_parts(w, HEAD, 0, n, k, &kinds);
     }
     false

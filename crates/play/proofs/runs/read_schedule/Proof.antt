@@ -2,8 +2,8 @@
 use Prim.Native.Nat.{_-_}
 use lib.ListN.{length}
 use Rattle.play.specs.Schedules.{Scheduling, reading}
-use Rattle.play.proofs.schedule.read_schedule.Statement.{statement}
-use Rattle.play.proofs.schedule.read_schedule.Tie as tie
+use Rattle.play.proofs.runs.read_schedule.Statement.{statement}
+use Rattle.play.proofs.runs.read_schedule.Tie as tie
 
 abbrev Inv-loop : tie.InvT-loop
 Inv-loop line entries₀ i₀ entries i = Scheduling line entries i
