@@ -60,7 +60,7 @@ sent w m n l h =
     rw a (omega arith)
 
 -- of a kind in the table
-outer-operands : (k p : ℕ) → Operating k → Unasked k → rowIn k % 4 ≡ outerBy k p
+outer-operands : (k p : ℕ) → Operating k → Unasked k → rowIn k .operands ≡ outerBy k p
 outer-operands k p h u =
     rw (
       ne-eqb k 11 (h .2),

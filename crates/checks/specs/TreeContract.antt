@@ -24,7 +24,7 @@ inner-is h k r e i = i ∙ ap (λ j. innerBy j (h / 256)) (sym e)
 abbrev Not : ℕ → ℕ → Type 0
 Not h k = h % 256 ≡ k → ⊥
 
-pub outer-row : (h r : ℕ) → Not h 11 → Not h 12 → Not h 13 → Not h 14 → Not h 15 → Not h 16 → Not h 17 → Not h 64 → Not h 66 → Not h 67 → Not h 68 → Not h fieldKind → r ≡ rowIn (h % 256) % 4 → r ≡ outer h
+pub outer-row : (h r : ℕ) → Not h 11 → Not h 12 → Not h 13 → Not h 14 → Not h 15 → Not h 16 → Not h 17 → Not h 64 → Not h 66 → Not h 67 → Not h 68 → Not h fieldKind → r ≡ rowIn (h % 256) .operands → r ≡ outer h
 unfolding outer
 outer-row h r a b c d e f g i j k l m p =
     p ∙ rw (ne-eqb (h % 256) 11 a, ne-eqb (h % 256) 12 b, ne-eqb (h % 256) 13 c, ne-eqb (h % 256) 14 d, ne-eqb (h % 256) 15 e, ne-eqb (h % 256) 16 f, ne-eqb (h % 256) 17 g, ne-eqb (h % 256) 64 i, ne-eqb (h % 256) 66 j, ne-eqb (h % 256) 67 k, ne-eqb (h % 256) 68 l, ne-eqb (h % 256) fieldKind m)

@@ -40,7 +40,7 @@ outerBy k p =
     (cond (eqb k 67) 1
     (cond (eqb k 68) 2
     (cond (eqb k fieldKind) 1
-    (rowIn k % 4))))))))))))
+    (rowIn k .operands))))))))))))
 
 abbrev pub innerBy : ℕ → ℕ → ℕ
 innerBy k p =

@@ -106,23 +106,31 @@ scriptCounts p = (1 + p / nameLimit / tagLimit) ∷ 1 ∷ 2 ∷ 2 ∷ 2 ∷ []
 unfoldable pub scriptOperands : ℕ → ℕ → ℕ
 scriptOperands k p = getD (scriptCounts p) (k - 64) 0
 
--- a row as one number, for the kinds below 32 that have as many operands whatever the payload: operands, demand, and 1 for an operator
--- without a name or 2 for one with a field's
-unfoldable pub rowOf : Form → ℕ
-rowOf nothing = 0
-rowOf nullValue = 0
-rowOf number = 0
-rowOf reference = 0
-rowOf variable = 0
-rowOf (bare o n e) = n + 4 * (demanded (written o) n + 4 * 1)
-rowOf (onField c k n e) = n + 4 * (n + 4 * 2)
-rowOf letIn = 2 + 4 * 1
-rowOf future = 1
-rowOf calls = 0
-rowOf sends = 0
-rowOf (literal k) = 0
+-- what the kind alone tells: of how many operands, whatever the payload, how many are demanded; and which operator it is, 1 for one without
+-- a name and 2 for one with a field's
+pub record Told : Type 0 where
+  pub operands : ℕ
+  pub demand : ℕ
+  pub operator : ℕ
 
-unfoldable pub rowIn : ℕ → ℕ
+abbrev tells : ℕ → ℕ → ℕ → Told
+tells n d o = record { operands = n; demand = d; operator = o }
+
+unfoldable pub rowOf : Form → Told
+rowOf nothing = tells 0 0 0
+rowOf nullValue = tells 0 0 0
+rowOf number = tells 0 0 0
+rowOf reference = tells 0 0 0
+rowOf variable = tells 0 0 0
+rowOf (bare o n e) = tells n (demanded (written o) n) 1
+rowOf (onField c k n e) = tells n n 2
+rowOf letIn = tells 2 1 0
+rowOf future = tells 1 0 0
+rowOf calls = tells 0 0 0
+rowOf sends = tells 0 0 0
+rowOf (literal k) = tells 0 0 0
+
+unfoldable pub rowIn : ℕ → Told
 rowIn k = rowOf (formIn k)
 
 -- of every word: a header leads one term
@@ -250,11 +258,14 @@ src-row (set f) = SrcRow.isField set 10 2 _ f refl
 src-row (call m) = SrcRow.isCall m
 src-row (send m) = SrcRow.isSend m
 
-pub kind-small : (k : Kind) → kindNumber k < fieldKind
+pub kind-range : (k : Kind) → (15 ≤ kindNumber k) × (kindNumber k < 18)
 unfolding kindNumber
-kind-small Kind.object = omega arith
-kind-small Kind.isolate = omega arith
-kind-small Kind.actor = omega arith
+kind-range Kind.object = (omega arith, omega arith)
+kind-range Kind.isolate = (omega arith, omega arith)
+kind-range Kind.actor = (omega arith, omega arith)
+
+pub kind-small : (k : Kind) → kindNumber k < fieldKind
+kind-small k = omega (arith, kind-range k .1)
 
 -- nothing stands past the last kind
 pub form-none : (k : ℕ) → lastKind < k → formIn k ≡ nothing
@@ -273,6 +284,4 @@ form-none k l = by-kind (λ k r. lastKind < k → r ≡ nothing) (λ k l. refl) 
     none future l = absurd (omega arith)
     none calls l = absurd (omega arith)
     none sends l = absurd (omega arith)
-    none (literal Kind.object) l = absurd (omega arith)
-    none (literal Kind.isolate) l = absurd (omega arith)
-    none (literal Kind.actor) l = absurd (omega arith)
+    none (literal k) l = absurd (omega (arith, kind-range k .1))

@@ -165,7 +165,7 @@ module _ (t : Bytes) (at o : ℕ) (old new : List ℕ) (a : Step) where
       (λ v. rw (parts-words (n - 1) (v .2), d (v .1), payload-field (c (v .1)) (v .1) n _ (h (v .1))))
       at (omega arith) (mids (n - 1) t) k (λ m. forms-is _ k t m _ b ∙ named-is _ _ _ c n h) s
 
-  module _ (k f n : ℕ) (p : f ≡ rowIn k / 16) (m : n ≡ rowIn k % 4) where
+  module _ (k f n : ℕ) (p : f ≡ rowIn k .operator) (m : n ≡ rowIn k .operands) where
     pub form-bare : f ≡ 1 → Follow k n t at (o + 1) old o new a → Reads wideSrc (forms k t) t at o old new a
     form-bare e s = let h = is-bare k f n p m e in form-parts (h .operator) k n (h .found) (h .shape) (h .kind) s
 
@@ -228,7 +228,7 @@ module _ (t : Bytes) (at o : ℕ) (old new : List ℕ) (a : Step) where
   pub form-own : (k j : ℕ) → k ≡ j → Reads wideSrc (forms j t) t at o old new a → Reads wideSrc (forms k t) t at o old new a
   form-own k j e s = rw e s
 
-pub form-rest : (t : Bytes) (at o k : ℕ) (old new : List ℕ) → (rowIn k / 16 ≡ 1 → ⊥) → (rowIn k / 16 ≡ 2 → ⊥) → Unformed ownKinds k → Reads wideSrc (forms k t) t at o old new Bad
+pub form-rest : (t : Bytes) (at o k : ℕ) (old new : List ℕ) → (rowIn k .operator ≡ 1 → ⊥) → (rowIn k .operator ≡ 2 → ⊥) → Unformed ownKinds k → Reads wideSrc (forms k t) t at o old new Bad
 unfolding Reads Took forms formBy
 form-rest t at o k old new x y h n l = rw (no-operator k x y h, formBy)
 

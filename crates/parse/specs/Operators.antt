@@ -105,7 +105,7 @@ pub record IsNaming (k n : ℕ) : Type 0 where
   pub kind : (f : ℕ) → srcKind (operator f) ≡ k
   pub some-left : 0 < n
 
-module _ (k f n : ℕ) (p : f ≡ rowIn k / 16) (m : n ≡ rowIn k % 4) where
+module _ (k f n : ℕ) (p : f ≡ rowIn k .operator) (m : n ≡ rowIn k .operands) where
   pub is-bare : f ≡ 1 → IsBare k n
   unfolding begun
   is-bare e =
@@ -130,7 +130,7 @@ abbrev pub ownKinds : List ℕ
 ownKinds = 68 ∷ 67 ∷ 66 ∷ 65 ∷ 64 ∷ 17 ∷ 16 ∷ 15 ∷ 14 ∷ 13 ∷ 12 ∷ 11 ∷ []
 
 unfoldable formed : List ℕ → ℕ → Bool
-formed [] k = eqb (rowIn k / 16) 1 || eqb (rowIn k / 16) 2
+formed [] k = eqb (rowIn k .operator) 1 || eqb (rowIn k .operator) 2
 formed (j ∷ js) k = eqb k j || formed js k
 
 abbrev pub Unformed : List ℕ → ℕ → Type 0
@@ -141,9 +141,9 @@ operators-formed : all (λ o. formed ownKinds (operatorKind o)) operators ≡ tr
 unfolding all formed Kinds Words demanded
 operators-formed = refl
 
-unformed : (k : ℕ) (js : List ℕ) → (rowIn k / 16 ≡ 1 → ⊥) → (rowIn k / 16 ≡ 2 → ⊥) → Unformed js k → formed js k ≡ false
+unformed : (k : ℕ) (js : List ℕ) → (rowIn k .operator ≡ 1 → ⊥) → (rowIn k .operator ≡ 2 → ⊥) → Unformed js k → formed js k ≡ false
 unfolding formed
-unformed k [] x y h = rw (ne-eqb (rowIn k / 16) 1 x, ne-eqb (rowIn k / 16) 2 y)
+unformed k [] x y h = rw (ne-eqb (rowIn k .operator) 1 x, ne-eqb (rowIn k .operator) 2 y)
 unformed k (j ∷ js) x y h = rw (ne-eqb k j (h .1)) (unformed k js x y (h .0))
 
 none-formed : (k : ℕ) (os : List Operator) → formed ownKinds k ≡ false → all (λ o. formed ownKinds (operatorKind o)) os ≡ true → operatorOf os k ≡ none
@@ -156,5 +156,5 @@ none-formed k (o ∷ os) x h =
     go true e i j = absurd (false≢true (sym x ∙ rw (← eqb-true (operatorKind o) k e) i))
     go false e i j = j
 
-pub no-operator : (k : ℕ) → (rowIn k / 16 ≡ 1 → ⊥) → (rowIn k / 16 ≡ 2 → ⊥) → Unformed ownKinds k → operatorOf operators k ≡ none
+pub no-operator : (k : ℕ) → (rowIn k .operator ≡ 1 → ⊥) → (rowIn k .operator ≡ 2 → ⊥) → Unformed ownKinds k → operatorOf operators k ≡ none
 no-operator k x y h = none-formed k operators (unformed k ownKinds x y h) operators-formed

@@ -55,7 +55,7 @@ module _ (t : List ℕ) (ws : List Bytes) (sp : Spells t ws) where
         let low : min 192 k ≡ k = omega arith in
         rw (kind, low, lt-ltb k 192 (omega arith), lt-ltb k fieldKind (omega arith), ne-eqb k 11 a, ne-eqb k 12 b, ne-eqb k 65 (λ e. omega arith), w)
 
-    unnamed : rowIn (opKind o) / 16 ≡ 1 → Unasked (opKind o) → after (opNode o n) ≡ noName
+    unnamed : rowIn (opKind o) .operator ≡ 1 → Unasked (opKind o) → after (opNode o n) ≡ noName
     unfolding afterIn
     unnamed r u =
         let k = opKind o in

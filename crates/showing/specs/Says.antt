@@ -13,7 +13,7 @@ use Rattle.atlite.specs.Printer.{form}
 use Rattle.reading.specs.Items.{behind, behind-append, form-closing}
 use Rattle.layout.specs.Numbers.{payload, fieldKind, nameLimit, noName, taggedLimit, secondPlace, thirdPlace}
 use Rattle.layout.specs.Arity.{arity, arity-header}
-use Rattle.layout.specs.Kinds.{Words}
+use Rattle.layout.specs.Kinds.{Words, rowOf}
 use Rattle.layout.specs.KindLaws.{row-none}
 use Rattle.showing.specs.TextOfWords.{nameIn, firstIn, second, placesIn, paramsIn, after, afterIn, count, operatorIn, headIn, Text}
 
@@ -56,7 +56,7 @@ module _ (t : List ℕ) (h m x y z : ℕ)
     (k : 192 ≤ h / payload) (a : h % nameLimit ≡ m) (b : h / taggedLimit % nameLimit ≡ x) (c : h / secondPlace % nameLimit ≡ y) (d : h / thirdPlace % nameLimit ≡ z)
   where
     pub says-method : (s p : Bytes) → nameIn t m ≡ 32 ∷ s → placesIn t x y z ≡ 32 ∷ p → Says t h methodWord (s ∷ p ∷ []) [] 1
-    unfolding headIn operatorIn firstIn second paramsIn nameIn afterIn Words
+    unfolding headIn operatorIn firstIn second paramsIn nameIn afterIn rowOf Words
     says-method s p f g =
         let j = h / payload in
         let top : min 192 j ≡ 192 = omega arith in

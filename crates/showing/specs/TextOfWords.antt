@@ -72,7 +72,7 @@ paramsIn t h = cond (ltb (h / payload) 192) [] (placesIn t (h / taggedLimit % na
 -- the name behind the first operand, with its tag: of an operator with a field's name, of a call, a send or an ask, of a when
 unfoldable pub afterIn : ℕ → ℕ → ℕ
 afterIn k h =
-    cond (eqb (rowIn k / 16) 2) (h % nameLimit) (cond (eqb k 13) (h % taggedLimit) (cond (eqb k 14) (h % taggedLimit) (cond (eqb k 64) (h % taggedLimit)
+    cond (eqb (rowIn k .operator) 2) (h % nameLimit) (cond (eqb k 13) (h % taggedLimit) (cond (eqb k 14) (h % taggedLimit) (cond (eqb k 64) (h % taggedLimit)
     (cond (eqb k 67) (h % nameLimit) noName))))
 
 abbrev pub after : ℕ → ℕ

@@ -128,7 +128,7 @@ Closed c h = (h / payload ≡ 11 → ⊥) → (h / payload ≡ 12 → ⊥) → (
 
 -- the kinds that are no operators of the table
 unfoldable pub Unlisted : ℕ → Type 0
-Unlisted k = (rowIn k / 16 ≡ 1 → ⊥) × (rowIn k / 16 ≡ 2 → ⊥)
+Unlisted k = (rowIn k .operator ≡ 1 → ⊥) × (rowIn k .operator ≡ 2 → ⊥)
 
 -- Behind the word h of a term stand r terms in the same scope; 0 says that h is closed.
 pub record Operands (c h r : ℕ) : Type 0 where

@@ -17,7 +17,7 @@ use Rattle.layout.specs.Numbers.{payload, nameLimit, noName, tagLimit, thirdPla
 use Rattle.layout.specs.PackLaws.{pack-low}
 use Rattle.layout.specs.Terms.{kindNumber}
 use Rattle.layout.specs.Kinds.{Kinds, Form, nothing, nullValue, number, reference, variable, bare, onField, calls, sends, formKind, rowOf, rowIn, by-kind as by-form}
-use Rattle.layout.specs.KindLaws.{demanded-few, bare-row, field-row, bare-found, field-found}
+use Rattle.layout.specs.KindLaws.{bare-row, field-row, bare-found, field-found}
 use Rattle.layout.specs.Parse.{valueIn, valueAt, nameOf, noHead, unary, binary, many, only, valueHead, askHead, askIn, headOf, headIn, headAt, formed}
 use Rattle.layout.specs.ParseLaws.{parse}
 use Rattle.checks.specs.Bound.{Swapped, Kept}
@@ -102,7 +102,7 @@ module _ (c h r : ℕ) where
   k = h / payload
 
   -- operands alone, and no payload
-  pub operands-bare : (i n : ℕ) → i ≡ rowIn k / 16 → i ≡ 1 → n ≡ rowIn k % 4 → Counted (eqb q 0) n r → Operands c h r
+  pub operands-bare : (i n : ℕ) → i ≡ rowIn k .operator → i ≡ 1 → n ≡ rowIn k .operands → Counted (eqb q 0) n r → Operands c h r
   unfolding headIn headOf
   operands-bare i n a b v t =
       let (f, m, e, d) = bare-found k (sym a ∙ b) in
@@ -122,7 +122,7 @@ module _ (c h r : ℕ) where
         go true i = refl
         go false i = absurd (true≢false (sym z ∙ e ∙ name-past c m q (ltb-false q noName i)))
 
-    pub operands-field : (i n : ℕ) → i ≡ rowIn k / 16 → i ≡ 2 → n ≡ rowIn k % 4 → Counted o n r → Operands c h r
+    pub operands-field : (i n : ℕ) → i ≡ rowIn k .operator → i ≡ 2 → n ≡ rowIn k .operands → Counted o n r → Operands c h r
     unfolding headIn headOf
     operands-field i n a b v t =
         let (f, m, d, u) = field-found k (sym a ∙ b) in
@@ -173,7 +173,7 @@ module _ (c h r : ℕ) where
 
 -- a word of no other kind
 abbrev Other : ℕ → Form → Type 0
-Other x r = 7 ≤ x → (rowOf r / 16 ≡ 1 → ⊥) × (rowOf r / 16 ≡ 2 → ⊥) → (x ≡ 11 → ⊥) → (x ≡ 12 → ⊥) → (x ≡ 13 → ⊥) → (x ≡ 14 → ⊥) → (x ≡ 15 → ⊥) → (x ≡ 16 → ⊥) → (x ≡ 17 → ⊥) → (p : ℕ) → headOf r p ≡ noHead
+Other x r = 7 ≤ x → (rowOf r .operator ≡ 1 → ⊥) × (rowOf r .operator ≡ 2 → ⊥) → (x ≡ 11 → ⊥) → (x ≡ 12 → ⊥) → (x ≡ 13 → ⊥) → (x ≡ 14 → ⊥) → (x ≡ 15 → ⊥) → (x ≡ 16 → ⊥) → (x ≡ 17 → ⊥) → (p : ℕ) → headOf r p ≡ noHead
 
 other : (r : Form) → Other (formKind r) r
 unfolding Kinds headOf
@@ -182,8 +182,8 @@ other nullValue l u k11 k12 k13 k14 k15 k16 k17 p = absurd (omega arith)
 other number l u k11 k12 k13 k14 k15 k16 k17 p = absurd (omega arith)
 other reference l u k11 k12 k13 k14 k15 k16 k17 p = absurd (omega arith)
 other variable l u k11 k12 k13 k14 k15 k16 k17 p = absurd (omega arith)
-other (bare o n e) l u k11 k12 k13 k14 k15 k16 k17 p = absurd (u .0 (omega (arith, e .3, demanded-few (written o) n)))
-other (onField c k n e) l u k11 k12 k13 k14 k15 k16 k17 p = absurd (u .1 (omega (arith, e .2)))
+other (bare o n e) l u k11 k12 k13 k14 k15 k16 k17 p = absurd (u .0 refl)
+other (onField c k n e) l u k11 k12 k13 k14 k15 k16 k17 p = absurd (u .1 refl)
 other Form.letIn l u k11 k12 k13 k14 k15 k16 k17 p = absurd (k11 refl)
 other Form.future l u k11 k12 k13 k14 k15 k16 k17 p = absurd (k12 refl)
 other calls l u k11 k12 k13 k14 k15 k16 k17 p = absurd (k13 refl)
@@ -202,7 +202,7 @@ module _ (c h : ℕ) where
     some = λ z. absurd (omega arith);
   }
 
-  pub unlisted : (r : ℕ) → r ≡ rowIn (h / payload) / 16 → (r ≡ 1 → ⊥) → (r ≡ 2 → ⊥) → Unlisted (h / payload)
+  pub unlisted : (r : ℕ) → r ≡ rowIn (h / payload) .operator → (r ≡ 1 → ⊥) → (r ≡ 2 → ⊥) → Unlisted (h / payload)
   unfolding Unlisted
   unlisted r e a b = (λ z. a (e ∙ z), λ z. b (e ∙ z))
 
