@@ -11,27 +11,27 @@ use borrow.Author.Tests.{ne-eqb, lt-ltb, le-ltb}
 use lib.Dec.{eqb, ltb}
 use lib.ListN.{length, getD, set}
 use lib.Seq.{set-set, set-getD}
-use Rattle.words.specs.Wide.{wideLimit, wideParamsAt, wideThird}
+use Rattle.words.specs.Wide.{wideKinds, wideLimit, wideParamsAt, wideThird}
 use Rattle.checks.specs.Trees.{Forest, empty, tree, words, count, outer, inner, Fits}
 use Rattle.checks.specs.TreeContract.{Here, length-tree, here-word, here-outer, here-inner, here-next, answer, chain, no-tree}
 
 -- a variable is `this` or in scope
 unfoldable pub sees : ℕ → ℕ → List ℕ → Bool
-sees h b L = cond (eqb (h % 256) 6) (cond (eqb (h / 256 % wideLimit) 0) true (ltb b (getD L (h / 256 % wideLimit) 0))) true
+sees h b L = cond (eqb (h % wideKinds) 6) (cond (eqb (h / wideKinds % wideLimit) 0) true (ltb b (getD L (h / wideKinds % wideLimit) 0))) true
 
 -- the base inside a word
 abbrev pub baseBy : ℕ → ℕ → ℕ → ℕ
 baseBy k b l = cond (eqb k 16) l (cond (eqb k 17) l b)
 
 unfoldable pub baseOf : ℕ → ℕ → ℕ → ℕ
-baseOf h b l = baseBy (h % 256) b l
+baseOf h b l = baseBy (h % wideKinds) b l
 
 -- the names that a word binds, in 12 bits each
 abbrev pub bindsBy : ℕ → ℕ → ℕ
 bindsBy k p = cond (eqb k 11) p (cond (eqb k 12) p (cond (eqb k 65) p (cond (eqb k 67) p (cond (eqb k 192) (p / wideParamsAt) 0))))
 
 unfoldable pub binds : ℕ → ℕ
-binds h = bindsBy (h % 256) (h / 256)
+binds h = bindsBy (h % wideKinds) (h / wideKinds)
 
 -- the three names are bound at the level v
 unfoldable pub bindAll : List ℕ → ℕ → ℕ → List ℕ
@@ -55,40 +55,40 @@ kept L = refl
 
 -- ---- one word
 module _ (h b : ℕ) (L : List ℕ) where
-  pub sees-this : h % 256 ≡ 6 → h / 256 % wideLimit ≡ 0 → true ≡ sees h b L
+  pub sees-this : h % wideKinds ≡ 6 → h / wideKinds % wideLimit ≡ 0 → true ≡ sees h b L
   unfolding sees
   sees-this k e = rw (k, e)
 
-  pub sees-bound : h % 256 ≡ 6 → (h / 256 % wideLimit ≡ 0 → ⊥) → b < getD L (h / 256 % wideLimit) 0 → true ≡ sees h b L
+  pub sees-bound : h % wideKinds ≡ 6 → (h / wideKinds % wideLimit ≡ 0 → ⊥) → b < getD L (h / wideKinds % wideLimit) 0 → true ≡ sees h b L
   unfolding sees
-  sees-bound k e l = rw (k, ne-eqb (h / 256 % wideLimit) 0 e, lt-ltb b (getD L (h / 256 % wideLimit) 0) l)
+  sees-bound k e l = rw (k, ne-eqb (h / wideKinds % wideLimit) 0 e, lt-ltb b (getD L (h / wideKinds % wideLimit) 0) l)
 
-  pub sees-unbound : h % 256 ≡ 6 → (h / 256 % wideLimit ≡ 0 → ⊥) → getD L (h / 256 % wideLimit) 0 ≤ b → false ≡ sees h b L
+  pub sees-unbound : h % wideKinds ≡ 6 → (h / wideKinds % wideLimit ≡ 0 → ⊥) → getD L (h / wideKinds % wideLimit) 0 ≤ b → false ≡ sees h b L
   unfolding sees
-  sees-unbound k e l = rw (k, ne-eqb (h / 256 % wideLimit) 0 e, le-ltb b (getD L (h / 256 % wideLimit) 0) l)
+  sees-unbound k e l = rw (k, ne-eqb (h / wideKinds % wideLimit) 0 e, le-ltb b (getD L (h / wideKinds % wideLimit) 0) l)
 
-  pub sees-other : (h % 256 ≡ 6 → ⊥) → true ≡ sees h b L
+  pub sees-other : (h % wideKinds ≡ 6 → ⊥) → true ≡ sees h b L
   unfolding sees
-  sees-other k = rw (ne-eqb (h % 256) 6 k)
+  sees-other k = rw (ne-eqb (h % wideKinds) 6 k)
 
 pub record Base (h b l r : ℕ) : Type 0 where
   pub is : r ≡ baseOf h b l
 
-pub base-level : (h b l k : ℕ) → h % 256 ≡ k → l ≡ baseBy k b l → Base h b l l
+pub base-level : (h b l k : ℕ) → h % wideKinds ≡ k → l ≡ baseBy k b l → Base h b l l
 unfolding baseOf
 base-level h b l k e i = record { is = i ∙ ap (λ j. baseBy j b l) (sym e) }
 
-pub base-same : (h b l : ℕ) → (h % 256 ≡ 16 → ⊥) → (h % 256 ≡ 17 → ⊥) → Base h b l b
+pub base-same : (h b l : ℕ) → (h % wideKinds ≡ 16 → ⊥) → (h % wideKinds ≡ 17 → ⊥) → Base h b l b
 unfolding baseOf
-base-same h b l x y = record { is = rw (ne-eqb (h % 256) 16 x, ne-eqb (h % 256) 17 y) }
+base-same h b l x y = record { is = rw (ne-eqb (h % wideKinds) 16 x, ne-eqb (h % wideKinds) 17 y) }
 
-pub binds-is : (h k r : ℕ) → h % 256 ≡ k → r ≡ bindsBy k (h / 256) → r ≡ binds h
+pub binds-is : (h k r : ℕ) → h % wideKinds ≡ k → r ≡ bindsBy k (h / wideKinds) → r ≡ binds h
 unfolding binds
-binds-is h k r e i = i ∙ ap (λ j. bindsBy j (h / 256)) (sym e)
+binds-is h k r e i = i ∙ ap (λ j. bindsBy j (h / wideKinds)) (sym e)
 
-pub binds-none : (h : ℕ) → (h % 256 ≡ 11 → ⊥) → (h % 256 ≡ 12 → ⊥) → (h % 256 ≡ 65 → ⊥) → (h % 256 ≡ 67 → ⊥) → (h % 256 ≡ 192 → ⊥) → 0 ≡ binds h
+pub binds-none : (h : ℕ) → (h % wideKinds ≡ 11 → ⊥) → (h % wideKinds ≡ 12 → ⊥) → (h % wideKinds ≡ 65 → ⊥) → (h % wideKinds ≡ 67 → ⊥) → (h % wideKinds ≡ 192 → ⊥) → 0 ≡ binds h
 unfolding binds
-binds-none h a b c d e = rw (ne-eqb (h % 256) 11 a, ne-eqb (h % 256) 12 b, ne-eqb (h % 256) 65 c, ne-eqb (h % 256) 67 d, ne-eqb (h % 256) 192 e)
+binds-none h a b c d e = rw (ne-eqb (h % wideKinds) 11 a, ne-eqb (h % wideKinds) 12 b, ne-eqb (h % wideKinds) 65 c, ne-eqb (h % wideKinds) 67 d, ne-eqb (h % wideKinds) 192 e)
 
 -- ---- binding, and back
 pub record Swapped (L : List ℕ) (i v : ℕ) (M : List ℕ) (r : ℕ) : Type 0 where

@@ -14,7 +14,7 @@ use Rattle.atlite.specs.Scope.{bound}
 use Rattle.atlite.specs.Script.{seq, Src, op, letIn, nil, cons, Line, expression, define, join}
 use Rattle.atlite.specs.Table.{Grammatical, GrammaticalLines}
 use Rattle.layout.specs.Results.{done-same, bind-done}
-use Rattle.words.specs.Wide.{wide, wideSrc, wideLines, wideLimit}
+use Rattle.words.specs.Wide.{wideKinds, wide, wideSrc, wideLines, wideLimit}
 use Rattle.checks.specs.Names.{Name, named}
 use Rattle.checks.specs.LinesAt.{Stands}
 use Rattle.checks.specs.Trees.{empty, words, count, put, words-put, count-put}
@@ -60,9 +60,9 @@ scan-src s end at l L m e w xs k g h v i =
     ∙ ap (λ b. answer b (at + length (words (put e empty)))) (ok-put e empty L 0 l xs w k g v ∙ ap (λ b. bound xs e && b) (ok-none L 0 l) ∙ and-true (bound xs e))
     ∙ ap (λ v. answer (bound xs e) (at + length v)) (words-put e empty ∙ append-nil (wideSrc e))
 
-name-back : (w x : ℕ) → w ≤ 4000 → Name w x → wide 130 x / 256 % wideLimit ≡ x
+name-back : (w x : ℕ) → w ≤ 4000 → Name w x → wide 130 x / wideKinds % wideLimit ≡ x
 name-back w x k h =
-    let a : wide 130 x / 256 ≡ x = omega arith in
+    let a : wide 130 x / wideKinds ≡ x = omega arith in
     rw a (omega (arith, h .below))
 
 module _ (s : List ℕ) (end at left l : ℕ) (L : List ℕ) where
@@ -77,14 +77,14 @@ module _ (s : List ℕ) (end at left l : ℕ) (L : List ℕ) where
   lines-past z p (d ∷ ls) w xs k g n h v = absurd (omega (arith, not-past s end at d ls h))
 
   -- the first word tells which line it is
-  expression-kind : (e : Src) (ls : List Line) → Here s end at (wideLines (expression e ∷ ls)) → getD s at 0 % 256 ≡ 130 → ⊥
+  expression-kind : (e : Src) (ls : List Line) → Here s end at (wideLines (expression e ∷ ls)) → getD s at 0 % wideKinds ≡ 130 → ⊥
   unfolding startBy
   expression-kind e ls h c = let d : startBy (getD s at 0) at ≡ at + 1 = rw c in omega (arith, sym (line-start s end at e ls h) ∙ d)
 
-  define-kind : (x : ℕ) (e : Src) (ls : List Line) → Here s end at (wideLines (define x e ∷ ls)) → (getD s at 0 % 256 ≡ 130 → ⊥) → ⊥
-  define-kind x e ls h c = c (ap (λ j. j % 256) (define-word s end at x e ls h) ∙ omega arith)
+  define-kind : (x : ℕ) (e : Src) (ls : List Line) → Here s end at (wideLines (define x e ∷ ls)) → (getD s at 0 % wideKinds ≡ 130 → ⊥) → ⊥
+  define-kind x e ls h c = c (ap (λ j. j % wideKinds) (define-word s end at x e ls h) ∙ omega arith)
 
-  module _ (m : ℕ) (z : left ≡ 0 → ⊥) (c : getD s at 0 % 256 ≡ 130 → ⊥) (i : Scanned s end at 1 0 l L m) where
+  module _ (m : ℕ) (z : left ≡ 0 → ⊥) (c : getD s at 0 % wideKinds ≡ 130 → ⊥) (i : Scanned s end at 1 0 l L m) where
     pub lines-fault : end ≤ 4096 → m ≡ 8192 → LinesBound s end at left l L false
     unfolding LinesBound boundLines GrammaticalLines
     lines-fault f t [] w xs k g n h v = absurd (z n)
@@ -102,7 +102,7 @@ module _ (s : List ℕ) (end at left l : ℕ) (L : List ℕ) where
         rw y (j ls w xs k (g .1) (omega arith) (line-rest s end at e ls m (a ∙ rw y) h) (rw e₁ v))
     lines-on r L₁ t e₁ j (define x e ∷ ls) w xs k g n h v = absurd (define-kind x e ls h c)
 
-  module _ (m : ℕ) (z : left ≡ 0 → ⊥) (c : getD s at 0 % 256 ≡ 130) (i : Scanned s end (at + 1) 1 0 l L m) where
+  module _ (m : ℕ) (z : left ≡ 0 → ⊥) (c : getD s at 0 % wideKinds ≡ 130) (i : Scanned s end (at + 1) 1 0 l L m) where
     pub define-fault : end ≤ 4096 → m ≡ 8192 → LinesBound s end at left l L false
     unfolding LinesBound boundLines GrammaticalLines
     define-fault f t [] w xs k g n h v = absurd (z n)
@@ -111,7 +111,7 @@ module _ (s : List ℕ) (end at left l : ℕ) (L : List ℕ) where
         let p = define-src s end at x e ls h in
         rw (stopped (bound xs e) _ m (scan-src s end (at + 1) l L m e w xs k (g .1) p v i) (omega (arith, p .ends)) t)
 
-    pub define-on : (r : Bool) (L₁ L₂ : List ℕ) (o : ℕ) → (m ≡ 8192 → ⊥) → Kept L L₁ → Swapped L₁ (getD s at 0 / 256 % wideLimit) (l + 1) L₂ o → LinesBound s end m (left - 1) (l + 1) L₂ r → LinesBound s end at left l L r
+    pub define-on : (r : Bool) (L₁ L₂ : List ℕ) (o : ℕ) → (m ≡ 8192 → ⊥) → Kept L L₁ → Swapped L₁ (getD s at 0 / wideKinds % wideLimit) (l + 1) L₂ o → LinesBound s end m (left - 1) (l + 1) L₂ r → LinesBound s end at left l L r
     unfolding LinesBound boundLines GrammaticalLines Kept
     define-on r L₁ L₂ o t e₁ p j [] w xs k g n h v = absurd (z n)
     define-on r L₁ L₂ o t e₁ p j (expression e ∷ ls) w xs k g n h v = absurd (expression-kind e ls h c)
@@ -119,7 +119,7 @@ module _ (s : List ℕ) (end at left l : ℕ) (L : List ℕ) where
         let a = scan-src s end (at + 1) l L m e w xs k (g .1) (define-src s end at x e ls h) v i in
         let y = went (bound xs e) _ m a t in
         let hx = named w x (g .0) in
-        let q : getD s at 0 / 256 % wideLimit ≡ x = ap (λ i. i / 256 % wideLimit) (define-word s end at x e ls h) ∙ name-back w x k hx in
+        let q : getD s at 0 / wideKinds % wideLimit ≡ x = ap (λ i. i / wideKinds % wideLimit) (define-word s end at x e ls h) ∙ name-back w x k hx in
         let e₂ : L₂ ≡ set L x (l + 1) = p .new ∙ rw (q, e₁) in
         rw y (j ls w (x ∷ xs) k (g .2) (omega arith) (define-rest s end at x e ls h m (a ∙ rw y)) (rw e₂ (bound-one L 0 l xs x (l + 1) (omega (arith, hx .below)) (omega arith) (omega arith) v)))
 

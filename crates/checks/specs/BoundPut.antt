@@ -16,7 +16,7 @@ use Rattle.atlite.specs.Script.{Src, num, null, var, op, letIn, future, fn, whe
 use Rattle.layout.specs.Numbers.{fieldKind}
 use Rattle.layout.specs.Terms.{kindNumber}
 use Rattle.layout.specs.Tables.{srcKind}
-use Rattle.words.specs.Wide.{wide, pair, wideParams, wideMethod, wideLimit, wideParamsAt}
+use Rattle.words.specs.Wide.{wideKinds, wide, pair, wideParams, wideMethod, wideLimit, wideParamsAt}
 use Rattle.checks.specs.Names.{Name, named, variable, all-named}
 use Rattle.checks.specs.Operators.{Passed, op-passed}
 use Rattle.checks.specs.Trees.{Forest, empty, tree, put, putAll, putFields, putMethods}
@@ -25,22 +25,22 @@ use Rattle.checks.specs.Bound.{sees, baseBy, baseOf, bindsBy, binds, bin
 use Rattle.checks.specs.Levels.{Levels, hidden, bound-all}
 
 -- ---- one word
-sees-wide : (k p b : ℕ) (L : List ℕ) → k < 256 → eqb k 6 ≡ false → sees (wide k p) b L ≡ true
+sees-wide : (k p b : ℕ) (L : List ℕ) → k < wideKinds → eqb k 6 ≡ false → sees (wide k p) b L ≡ true
 unfolding sees
 sees-wide k p b L h e = rw (kind-wide k p h, e)
 
-base-wide : (k p b l : ℕ) → k < 256 → baseOf (wide k p) b l ≡ baseBy k b l
+base-wide : (k p b l : ℕ) → k < wideKinds → baseOf (wide k p) b l ≡ baseBy k b l
 unfolding baseOf
 base-wide k p b l h = rw (kind-wide k p h)
 
-binds-wide : (k p : ℕ) → k < 256 → binds (wide k p) ≡ bindsBy k p
+binds-wide : (k p : ℕ) → k < wideKinds → binds (wide k p) ≡ bindsBy k p
 unfolding binds
 binds-wide k p h = rw (kind-wide k p h, payload-wide k p h)
 
 sees-var : (x b l : ℕ) (L xs : List ℕ) → x < wideLimit → Levels L b l xs → sees (wide 6 x) b L ≡ member x (0 ∷ xs)
 unfolding sees member if_then_else_
 sees-var x b l L xs h v =
-    let i : 6 < 256 = omega arith in
+    let i : 6 < wideKinds = omega arith in
     let m : x % wideLimit ≡ x = omega arith in
     rw (kind-wide 6 x i, payload-wide 6 x i, m) (go x v)
   where
@@ -52,7 +52,7 @@ pub ok-none : (L : List ℕ) (b l : ℕ) → ok empty L b l ≡ true
 unfolding ok
 ok-none L b l = refl
 
-module _ (k p b l : ℕ) (L : List ℕ) (r : Forest) (h : k < 256) (v : eqb k 6 ≡ false) where
+module _ (k p b l : ℕ) (L : List ℕ) (r : Forest) (h : k < wideKinds) (v : eqb k 6 ≡ false) where
   both : (a c : Forest) (A C : Bool) → ok a L (baseBy k b l) l ≡ A → ok c (bindAll L (bindsBy k p) (l + 1)) (baseBy k b l) (l + 1) ≡ C → ok (tree (wide k p) a c r) L b l ≡ (A && C) && ok r L b l
   unfolding ok
   both a c A C x y = rw (sees-wide k p b L h v, base-wide k p b l h, binds-wide k p h, x, y) (sym (and-assoc A C (ok r L b l)))

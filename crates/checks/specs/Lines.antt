@@ -14,7 +14,7 @@ use Rattle.layout.specs.Numbers.{fieldKind}
 use Rattle.layout.specs.Pack.{flat}
 use Rattle.layout.specs.Terms.{kindNumber}
 use Rattle.layout.specs.Tables.{srcKind}
-use Rattle.words.specs.Wide.{wide, wideSrc, wideLine, wideLines}
+use Rattle.words.specs.Wide.{wideKinds, wide, wideSrc, wideLine, wideLines}
 use Rattle.checks.specs.LinesAt.{Stands}
 use Rattle.checks.specs.Trees.{empty, words, put, words-put}
 use Rattle.checks.specs.Operators.{op-passed}
@@ -25,7 +25,7 @@ pub record Headed (v : List ℕ) : Type 0 where
   pub word : ℕ
   pub others : List ℕ
   pub is : v ≡ word ∷ others
-  pub low : word % 256 < fieldKind
+  pub low : word % wideKinds < fieldKind
 
 headed : (k p : ℕ) (v : List ℕ) → k < fieldKind → Headed (wide k p ∷ v)
 headed k p v h = record { word = wide k p; others = v; is = refl; low = omega arith }
@@ -50,20 +50,20 @@ head-src (when a x b) = headed 67 x _ (omega arith)
 
 -- ---- where the expression of a line begins whose first word, at `at`, is h
 unfoldable pub startBy : ℕ → ℕ → ℕ
-startBy h at = cond (eqb (h % 256) 130) (at + 1) at
+startBy h at = cond (eqb (h % wideKinds) 130) (at + 1) at
 
 pub record Start (h at r : ℕ) : Type 0 where
   pub is : r ≡ startBy h at
   pub above : at ≤ r
   pub below : r ≤ at + 1
 
-pub start-define : (h at : ℕ) → h % 256 ≡ 130 → Start h at (at + 1)
+pub start-define : (h at : ℕ) → h % wideKinds ≡ 130 → Start h at (at + 1)
 unfolding startBy
-start-define h at e = record { is = rw (eq-eqb (h % 256) 130 e); above = omega arith; below = omega arith }
+start-define h at e = record { is = rw (eq-eqb (h % wideKinds) 130 e); above = omega arith; below = omega arith }
 
-pub start-other : (h at : ℕ) → (h % 256 ≡ 130 → ⊥) → Start h at at
+pub start-other : (h at : ℕ) → (h % wideKinds ≡ 130 → ⊥) → Start h at at
 unfolding startBy
-start-other h at e = record { is = rw (ne-eqb (h % 256) 130 e); above = omega arith; below = omega arith }
+start-other h at e = record { is = rw (ne-eqb (h % wideKinds) 130 e); above = omega arith; below = omega arith }
 
 pub ruleset laws = (needs, start-define, start-other)
 
@@ -87,7 +87,7 @@ module _ (s : List ℕ) (end at : ℕ) where
     line-start h =
         let k = head-src e in
         let q : getD s at 0 ≡ k .word = here-first s end at (k .word) (k .others) (subst (λ v. Here s end at v) (k .is) (line-src h)) in
-        rw (q, ne-eqb (k .word % 256) 130 (λ i. omega (arith, k .low)))
+        rw (q, ne-eqb (k .word % wideKinds) 130 (λ i. omega (arith, k .low)))
 
   module _ (x : ℕ) (e : Src) (ls : List Line) (h : Here s end at (wideLines (define x e ∷ ls))) where
     pub define-word : getD s at 0 ≡ wide 130 x
@@ -107,7 +107,7 @@ module _ (s : List ℕ) (end at : ℕ) where
 
     pub define-start : startBy (getD s at 0) at ≡ at + 1
     unfolding startBy
-    define-start = let q : wide 130 x % 256 ≡ 130 = omega arith in rw (define-word, q)
+    define-start = let q : wide 130 x % wideKinds ≡ 130 = omega arith in rw (define-word, q)
 
 -- a line has a word
 pub not-past : (s : List ℕ) (end at : ℕ) (l : Line) (ls : List Line) → Here s end at (wideLines (l ∷ ls)) → at < end

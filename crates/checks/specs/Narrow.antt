@@ -14,14 +14,14 @@ use Rattle.atlite.specs.Valid.{isName, shapely}
 use Rattle.reading.specs.Items.{call-few, send-few}
 use Rattle.atlite.specs.Table.{Grammatical, GrammaticalAll, GrammaticalFields, GrammaticalMethods, GrammaticalLines, writable}
 use Rattle.atlite.specs.Script.{SrcOp, ask, resolve, seq, Src, num, null, var, op, letIn, future, fn, when, literal, Srcs, nil, cons, SrcFields, noField, field, SrcMethods, noMethod, method, Line, expression, define, countSrcs}
-use Rattle.layout.specs.Numbers.{payload, fieldKind, nameLimit, noName, taggedLimit}
+use Rattle.layout.specs.Numbers.{payload, fieldKind, methodUnit, nameLimit, noName, taggedLimit}
 use Rattle.layout.specs.Pack.{node, flat, places}
 use Rattle.layout.specs.PackLaws.{Each}
 use Rattle.layout.specs.Kinds.{Operating, SrcRow, isBare, isField, isCall, isSend, src-row, op-kind}
 use Rattle.layout.specs.KindLaws.{Unasked, bare-unasked, field-unasked}
 use Rattle.layout.specs.Terms.{opKind, kindNumber, tagged, asked, methodHeader}
 use Rattle.layout.specs.Tables.{srcKind, srcPayload, encodeSrc, encodeSrcs, encodeFields, encodeSrcMethods, encodeLine}
-use Rattle.words.specs.Wide.{wide, pair, wideParams, wideMethod, widePayload, wideSrc, wideSrcs, wideFields, wideMethods, wideLine, wideLines, wideLimit, wideParamsAt, wideThird}
+use Rattle.words.specs.Wide.{wideKinds, wide, pair, wideParams, wideMethod, widePayload, wideSrc, wideSrcs, wideFields, wideMethods, wideLine, wideLines, wideLimit, wideParamsAt, wideThird}
 use Rattle.checks.specs.Names.{Name, named, variable, all-named}
 
 unfoldable pub tableWord : ℕ → ℕ → ℕ
@@ -33,8 +33,8 @@ placed x = cond (eqb x 0) noName x
 
 unfoldable pub methodWord : ℕ → ℕ
 methodWord p =
-    (p % wideLimit + nameLimit * (p / wideLimit % 4 + 4 * (placed (p / wideParamsAt % wideLimit) + nameLimit * (placed (p / wideParamsAt / wideLimit % wideLimit) + nameLimit * placed (p / wideParamsAt / wideThird % wideLimit))))) % (64 * payload)
-    + 192 * payload
+    (p % wideLimit + nameLimit * (p / wideLimit % 4 + 4 * (placed (p / wideParamsAt % wideLimit) + nameLimit * (placed (p / wideParamsAt / wideLimit % wideLimit) + nameLimit * placed (p / wideParamsAt / wideThird % wideLimit))))) % methodUnit
+    + 3 * methodUnit
 
 -- two digits of 12 bits, the second moved to where the table has it
 unfoldable pub pairWord : ℕ → ℕ → ℕ → ℕ
@@ -50,18 +50,18 @@ narrowBy k p =
     (tableWord k p)))))
 
 unfoldable pub narrow : ℕ → ℕ
-narrow h = narrowBy (h % 256) (h / 256)
+narrow h = narrowBy (h % wideKinds) (h / wideKinds)
 
 unfoldable pub narrowAll : List ℕ → List ℕ
 narrowAll [] = []
 narrowAll (h ∷ w) = narrow h ∷ narrowAll w
 
 -- ---- the words of each form
-of-wide : (k p : ℕ) → k < 256 → narrow (wide k p) ≡ narrowBy k p
+of-wide : (k p : ℕ) → k < wideKinds → narrow (wide k p) ≡ narrowBy k p
 unfolding narrow
 of-wide k p h =
-    let a : (k + 256 * p) % 256 ≡ k = omega arith in
-    let b : (k + 256 * p) / 256 ≡ p = omega arith in
+    let a : (k + wideKinds * p) % wideKinds ≡ k = omega arith in
+    let b : (k + wideKinds * p) / wideKinds ≡ p = omega arith in
     rw (a, b)
 
 plain-word : (k p : ℕ) → p < payload → tableWord k p ≡ node k p
@@ -77,11 +77,11 @@ pair-word m k x y h l s =
     rw (a, b, d) (plain-word k (x + m * y) s)
 
 -- a kind whose payload stands as it is
-kept : (k p : ℕ) → k < 256 → p < payload → narrowBy k p ≡ tableWord k p → narrow (wide k p) ≡ node k p
+kept : (k p : ℕ) → k < wideKinds → p < payload → narrowBy k p ≡ tableWord k p → narrow (wide k p) ≡ node k p
 kept k p l h e = of-wide k p l ∙ e ∙ plain-word k p h
 
 -- a message's name and count
-sent : (k m n : ℕ) → k < 256 → m < wideLimit → n ≤ 3 → narrowBy k (pair m n) ≡ pairWord taggedLimit k (pair m n) → narrow (wide k (pair m n)) ≡ node k (asked (plain m) n)
+sent : (k m n : ℕ) → k < wideKinds → m < wideLimit → n ≤ 3 → narrowBy k (pair m n) ≡ pairWord taggedLimit k (pair m n) → narrow (wide k (pair m n)) ≡ node k (asked (plain m) n)
 unfolding tagged
 sent k m n l h s e = of-wide k (pair m n) l ∙ e ∙ pair-word taggedLimit k m n h (omega arith) (omega arith) ∙ omega arith
 
@@ -100,7 +100,7 @@ module _ (m n x y z : ℕ) (hm : m < wideLimit) (hn : n < 4) (hx : x < wideLimit
   abbrev digits : ℕ
   digits = pair m (n + 4 * pair x (pair y z))
 
-  method-digits : methodWord digits ≡ (m + nameLimit * (n + 4 * (placed x + nameLimit * (placed y + nameLimit * placed z)))) % (64 * payload) + 192 * payload
+  method-digits : methodWord digits ≡ (m + nameLimit * (n + 4 * (placed x + nameLimit * (placed y + nameLimit * placed z)))) % methodUnit + 3 * methodUnit
   unfolding methodWord
   method-digits =
       let a : digits % wideLimit ≡ m = omega arith in

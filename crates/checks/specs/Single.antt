@@ -10,7 +10,7 @@ use borrow.Author.Tests.{eq-eqb, ne-eqb, lt-ltb, le-ltb}
 use lib.Dec.{eqb, ltb}
 use lib.ListN.{length, getD}
 use Rattle.layout.specs.Numbers.{fieldKind}
-use Rattle.words.specs.Wide.{wideLimit, wideParamsAt, wideThird}
+use Rattle.words.specs.Wide.{wideKinds, wideNames, wideLimit, wideParamsAt, wideThird}
 use Rattle.checks.specs.Trees.{Forest, empty, tree, words, count, outer, inner, Fits}
 use Rattle.checks.specs.TreeContract.{Here, length-tree, here-word, here-outer, here-inner, here-next, answer, chain, no-tree}
 
@@ -31,11 +31,11 @@ ownBy k p n =
     true))
 
 unfoldable pub own : ℕ → ℕ → Bool
-own h n = ownBy (h % 256) (h / 256) n
+own h n = ownBy (h % wideKinds) (h / wideKinds) n
 
 -- the names, with that of a header
 unfoldable pub noted : ℕ → ℕ → ℕ
-noted h n = cond (ltb (h % 256) fieldKind) n (h / 256 % wideLimit + wideLimit * (n % 68719476736))
+noted h n = cond (ltb (h % wideKinds) fieldKind) n (h / wideKinds % wideLimit + wideLimit * (n % wideNames))
 
 unfoldable pub sing : Forest → ℕ → Bool
 sing empty n = true
@@ -94,38 +94,38 @@ module _ (x y z : ℕ) where
         apart-three d e = rw (ne-eqb y 0 a, ne-eqb x y b, ne-eqb z 0 c, ne-eqb x z d, ne-eqb y z e)
 
 module _ (h n : ℕ) where
-  pub own-same : h % 256 ≡ 12 → h / 256 % wideLimit ≡ h / 256 / wideLimit % wideLimit → false ≡ own h n
+  pub own-same : h % wideKinds ≡ 12 → h / wideKinds % wideLimit ≡ h / wideKinds / wideLimit % wideLimit → false ≡ own h n
   unfolding own
-  own-same k e = rw (k, eq-eqb (h / 256 % wideLimit) (h / 256 / wideLimit % wideLimit) e)
+  own-same k e = rw (k, eq-eqb (h / wideKinds % wideLimit) (h / wideKinds / wideLimit % wideLimit) e)
 
-  pub own-other : h % 256 ≡ 12 → (h / 256 % wideLimit ≡ h / 256 / wideLimit % wideLimit → ⊥) → true ≡ own h n
+  pub own-other : h % wideKinds ≡ 12 → (h / wideKinds % wideLimit ≡ h / wideKinds / wideLimit % wideLimit → ⊥) → true ≡ own h n
   unfolding own
-  own-other k e = rw (k, ne-eqb (h / 256 % wideLimit) (h / 256 / wideLimit % wideLimit) e)
+  own-other k e = rw (k, ne-eqb (h / wideKinds % wideLimit) (h / wideKinds / wideLimit % wideLimit) e)
 
-  pub own-field : (r : Bool) → h % 256 ≡ fieldKind → r ≡ fresh n (h / 256 % wideLimit) → r ≡ own h n
+  pub own-field : (r : Bool) → h % wideKinds ≡ fieldKind → r ≡ fresh n (h / wideKinds % wideLimit) → r ≡ own h n
   unfolding own
   own-field r k e = e ∙ rw k
 
-  pub own-method : (a r : Bool) → h % 256 ≡ 192 → a ≡ fresh n (h / 256 % wideLimit) → a ≡ true
-      → r ≡ apart (h / 256 / wideParamsAt % wideLimit) (h / 256 / wideParamsAt / wideLimit % wideLimit) (h / 256 / wideParamsAt / wideThird % wideLimit) → r ≡ own h n
+  pub own-method : (a r : Bool) → h % wideKinds ≡ 192 → a ≡ fresh n (h / wideKinds % wideLimit) → a ≡ true
+      → r ≡ apart (h / wideKinds / wideParamsAt % wideLimit) (h / wideKinds / wideParamsAt / wideLimit % wideLimit) (h / wideKinds / wideParamsAt / wideThird % wideLimit) → r ≡ own h n
   unfolding own
   own-method a r k e t i = i ∙ rw (k, sym e ∙ t)
 
-  pub own-taken : (a : Bool) → h % 256 ≡ 192 → a ≡ fresh n (h / 256 % wideLimit) → a ≡ false → false ≡ own h n
+  pub own-taken : (a : Bool) → h % wideKinds ≡ 192 → a ≡ fresh n (h / wideKinds % wideLimit) → a ≡ false → false ≡ own h n
   unfolding own
   own-taken a k e t = rw (k, sym e ∙ t)
 
-  pub own-none : (h % 256 ≡ 12 → ⊥) → (h % 256 ≡ fieldKind → ⊥) → (h % 256 ≡ 192 → ⊥) → true ≡ own h n
+  pub own-none : (h % wideKinds ≡ 12 → ⊥) → (h % wideKinds ≡ fieldKind → ⊥) → (h % wideKinds ≡ 192 → ⊥) → true ≡ own h n
   unfolding own
-  own-none a b c = rw (ne-eqb (h % 256) 12 a, ne-eqb (h % 256) fieldKind b, ne-eqb (h % 256) 192 c)
+  own-none a b c = rw (ne-eqb (h % wideKinds) 12 a, ne-eqb (h % wideKinds) fieldKind b, ne-eqb (h % wideKinds) 192 c)
 
-  pub noted-node : h % 256 < fieldKind → n ≡ noted h n
+  pub noted-node : h % wideKinds < fieldKind → n ≡ noted h n
   unfolding noted
-  noted-node l = rw (lt-ltb (h % 256) fieldKind l)
+  noted-node l = rw (lt-ltb (h % wideKinds) fieldKind l)
 
-  pub noted-header : fieldKind ≤ h % 256 → h / 256 % wideLimit + wideLimit * (n % 68719476736) ≡ noted h n
+  pub noted-header : fieldKind ≤ h % wideKinds → h / wideKinds % wideLimit + wideLimit * (n % wideNames) ≡ noted h n
   unfolding noted
-  noted-header l = rw (le-ltb (h % 256) fieldKind l)
+  noted-header l = rw (le-ltb (h % wideKinds) fieldKind l)
 
 -- ---- the ways to return
 module _ (s : List ℕ) (end at n names : ℕ) where

@@ -11,7 +11,7 @@ use lib.ListN.{length}
 use Rattle.atlite.specs.Base.{if_then_else_, member, distinct}
 use Rattle.layout.specs.Numbers.{fieldKind}
 use Rattle.layout.specs.PackLaws.{Each}
-use Rattle.words.specs.Wide.{wide, pair, wideParams, wideLimit, wideThird}
+use Rattle.words.specs.Wide.{wideKinds, wideNames, wide, pair, wideParams, wideLimit, wideThird}
 use Rattle.checks.specs.Names.{Name}
 use Rattle.checks.specs.TreeFits.{kind-wide, payload-wide}
 use Rattle.checks.specs.Single.{fresh, apart, noted}
@@ -111,7 +111,7 @@ fresh-packed (a ∷ b ∷ c ∷ []) x l h z =
     ∙ rw (not-if (eqb x a) (if eqb x b then true else (if eqb x c then true else false)), not-if (eqb x b) (if eqb x c then true else false), not-if (eqb x c) false)
 fresh-packed (a ∷ b ∷ c ∷ d ∷ ns) x l h z = absurd (omega arith)
 
-packed-small : (ns : List ℕ) → length ns ≤ 3 → Each Small ns → packed ns < 68719476736
+packed-small : (ns : List ℕ) → length ns ≤ 3 → Each Small ns → packed ns < wideNames
 unfolding packed
 packed-small [] l h = omega arith
 packed-small (a ∷ []) l h = omega (arith, h .0)
@@ -119,10 +119,10 @@ packed-small (a ∷ b ∷ []) l h = omega (arith, h .0, h .1 .0)
 packed-small (a ∷ b ∷ c ∷ []) l h = omega (arith, h .0, h .1 .0, h .1 .1 .0)
 packed-small (a ∷ b ∷ c ∷ d ∷ ns) l h = absurd (omega arith)
 
-pub noted-packed : (k p m : ℕ) (ns : List ℕ) → fieldKind ≤ k → k < 256 → length ns ≤ 3 → Each Small ns → p % wideLimit ≡ m → noted (wide k p) (packed ns) ≡ packed (m ∷ ns)
+pub noted-packed : (k p m : ℕ) (ns : List ℕ) → fieldKind ≤ k → k < wideKinds → length ns ≤ 3 → Each Small ns → p % wideLimit ≡ m → noted (wide k p) (packed ns) ≡ packed (m ∷ ns)
 unfolding noted packed
 noted-packed k p m ns hk lk l h e =
-    let q : packed ns % 68719476736 ≡ packed ns = omega (arith, packed-small ns l h) in
+    let q : packed ns % wideNames ≡ packed ns = omega (arith, packed-small ns l h) in
     rw (kind-wide k p lk, payload-wide k p lk, le-ltb k fieldKind hk, e, q)
 
 -- ---- parameters

@@ -16,7 +16,7 @@ use Rattle.layout.specs.Numbers.{fieldKind}
 use Rattle.layout.specs.PackLaws.{Each}
 use Rattle.layout.specs.Terms.{kindNumber}
 use Rattle.layout.specs.Tables.{srcKind}
-use Rattle.words.specs.Wide.{wide, pair, wideParams, wideMethod, widePayload, wideLimit, wideParamsAt}
+use Rattle.words.specs.Wide.{wideKinds, wide, pair, wideParams, wideMethod, widePayload, wideLimit, wideParamsAt}
 use Rattle.checks.specs.Names.{Name, named, all-named}
 use Rattle.checks.specs.Operators.{op-passed}
 use Rattle.checks.specs.Trees.{Forest, empty, tree, put, putAll, putFields, putMethods}
@@ -24,13 +24,13 @@ use Rattle.checks.specs.TreeFits.{kind-wide, payload-wide}
 use Rattle.checks.specs.Single.{ownBy, own, noted, sing}
 use Rattle.checks.specs.SingleNames.{packed, distinctFrom, from-none, Small, fresh-packed, noted-packed, apart-params}
 
-own-wide : (k p n : ℕ) → k < 256 → own (wide k p) n ≡ ownBy k p n
+own-wide : (k p n : ℕ) → k < wideKinds → own (wide k p) n ≡ ownBy k p n
 unfolding own
 own-wide k p n h = rw (kind-wide k p h, payload-wide k p h)
 
 noted-wide : (k p n : ℕ) → k < fieldKind → noted (wide k p) n ≡ n
 unfolding noted
-noted-wide k p n h = let l : k < 256 = omega arith in rw (kind-wide k p l, lt-ltb k fieldKind h)
+noted-wide k p n h = let l : k < wideKinds = omega arith in rw (kind-wide k p l, lt-ltb k fieldKind h)
 
 pub sing-none : sing empty 0 ≡ true
 unfolding sing
@@ -44,7 +44,7 @@ no-more n = refl
 node : (k p n : ℕ) (a c r : Forest) (o A C : Bool) → k < fieldKind → ownBy k p n ≡ o → sing a 0 ≡ A → sing c 0 ≡ C → sing (tree (wide k p) a c r) n ≡ (o && (A && C)) && sing r n
 unfolding sing
 node k p n a c r o A C h e x y =
-    let l : k < 256 = omega arith in
+    let l : k < wideKinds = omega arith in
     rw (own-wide k p n l, e, noted-wide k p n h, x, y) (sym (and-assoc o (A && C) (sing r n) ∙ ap (λ b. o && b) (and-assoc A C (sing r n))))
 
 -- a word with no list of its own, and operands of the first kind, of the second, of both

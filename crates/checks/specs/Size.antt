@@ -22,10 +22,10 @@ use Rattle.layout.specs.Tables.{srcKind}
 use Rattle.checks.specs.Operators.{op-passed}
 use Rattle.layout.specs.Results.{done-same, bind-done}
 use Rattle.checks.specs.LinesAt.{Stands, within}
-use Rattle.words.specs.Wide.{wide, wideMethod, wideSrc, wideSrcs, wideFields, wideMethods, wideLine, wideLines}
+use Rattle.words.specs.Wide.{wideKinds, wide, wideMethod, wideSrc, wideSrcs, wideFields, wideMethods, wideLine, wideLines}
 
 unfoldable pub isNode : ℕ → ℕ
-isNode h = cond (ltb (h % 256) fieldKind) 1 0
+isNode h = cond (ltb (h % wideKinds) fieldKind) 1 0
 
 unfoldable pub nodesIn : List ℕ → ℕ
 nodesIn [] = 0
@@ -39,13 +39,13 @@ pub record NodeOf (h r : ℕ) : Type 0 where
 unfoldable pub Size : List ℕ → ℕ → ℕ → ℕ → Type 0
 Size s words lines r = (ls : List Line) (e : Src) → Stands s words lines ls → join ls ≡ done e → r ≡ size e
 
-pub node-yes : (h : ℕ) → h % 256 < fieldKind → NodeOf h 1
+pub node-yes : (h : ℕ) → h % wideKinds < fieldKind → NodeOf h 1
 unfolding isNode
-node-yes h t = record { is = rw (lt-ltb (h % 256) fieldKind t); small = omega arith }
+node-yes h t = record { is = rw (lt-ltb (h % wideKinds) fieldKind t); small = omega arith }
 
-pub node-no : (h : ℕ) → fieldKind ≤ h % 256 → NodeOf h 0
+pub node-no : (h : ℕ) → fieldKind ≤ h % wideKinds → NodeOf h 0
 unfolding isNode
-node-no h t = record { is = rw (le-ltb (h % 256) fieldKind t); small = omega arith }
+node-no h t = record { is = rw (le-ltb (h % wideKinds) fieldKind t); small = omega arith }
 
 -- ---- the loop
 unfoldable pub Counting : List ℕ → ℕ → ℕ → ℕ → Type 0
@@ -76,7 +76,7 @@ nodes-append (h ∷ v) w = rw (nodes-append v w) (omega arith)
 is-node : (k p : ℕ) → k < fieldKind → isNode (wide k p) ≡ 1
 is-node k p h = sym (node-yes (wide k p) (omega arith) .is)
 
-is-header : (k p : ℕ) → fieldKind ≤ k → k < 256 → isNode (wide k p) ≡ 0
+is-header : (k p : ℕ) → fieldKind ≤ k → k < wideKinds → isNode (wide k p) ≡ 0
 is-header k p h l = sym (node-no (wide k p) (omega arith) .is)
 
 literal-node : (k : Kind) (p : ℕ) → isNode (wide (kindNumber k) p) ≡ 1

@@ -10,11 +10,11 @@ use borrow.Author.Tests.{eq-eqb, ne-eqb}
 use lib.ListN.{length, getD, set, take, drop, replicate, drop-of-length-le}
 use lib.Seq.{sets, slice, slice-cons, slice-empty, drop-cons}
 use Rattle.atlite.specs.Lexicon.{Bytes}
-use Rattle.layout.specs.Numbers.{payload, nameLimit, noName, taggedLimit, linesAt}
+use Rattle.layout.specs.Numbers.{payload, methodUnit, nameLimit, noName, taggedLimit, linesAt}
 use Rattle.layout.specs.Pack.{zeros, flat}
 use Rattle.layout.specs.PackLaws.{pack-low, pack-high}
 use Rattle.layout.specs.Layout.{bytesNumber, threeWords, encodeWord}
-use Rattle.words.specs.Wide.{wideLimit, wideParamsAt, wideThird}
+use Rattle.words.specs.Wide.{wideKinds, wideLimit, wideParamsAt, wideThird}
 use Rattle.checks.specs.Narrow.{tableWord, placed, methodWord, pairWord, narrowBy, narrow, narrowAll}
 
 pub record Placed (x r : ℕ) : Type 0 where
@@ -37,38 +37,38 @@ unfolding tableWord
 table-word k p = refl
 
 pub method-word : (p x y z : ℕ) → Placed (p / wideParamsAt % wideLimit) x → Placed (p / wideParamsAt / wideLimit % wideLimit) y → Placed (p / wideParamsAt / wideThird % wideLimit) z
-    → MethodWord p ((p % wideLimit + nameLimit * (p / wideLimit % 4 + 4 * (x + nameLimit * (y + nameLimit * z)))) % (64 * payload) + 192 * payload)
+    → MethodWord p ((p % wideLimit + nameLimit * (p / wideLimit % 4 + 4 * (x + nameLimit * (y + nameLimit * z)))) % methodUnit + 3 * methodUnit)
 unfolding methodWord
 method-word p x y z hx hy hz = record { is = rw (hx .is, hy .is, hz .is) }
 
 module _ (h r : ℕ) where
-  pub narrow-future : h % 256 ≡ 12 → r ≡ tableWord (h % 256) (h / 256 % wideLimit + nameLimit * (h / 256 / wideLimit % wideLimit)) → r ≡ narrow h
+  pub narrow-future : h % wideKinds ≡ 12 → r ≡ tableWord (h % wideKinds) (h / wideKinds % wideLimit + nameLimit * (h / wideKinds / wideLimit % wideLimit)) → r ≡ narrow h
   unfolding narrow narrowBy pairWord
   narrow-future e i = i ∙ rw e
 
-  sent : narrowBy (h % 256) (h / 256) ≡ pairWord taggedLimit (h % 256) (h / 256) → r ≡ tableWord (h % 256) (h / 256 % wideLimit + taggedLimit * (h / 256 / wideLimit % wideLimit)) → r ≡ narrow h
+  sent : narrowBy (h % wideKinds) (h / wideKinds) ≡ pairWord taggedLimit (h % wideKinds) (h / wideKinds) → r ≡ tableWord (h % wideKinds) (h / wideKinds % wideLimit + taggedLimit * (h / wideKinds / wideLimit % wideLimit)) → r ≡ narrow h
   unfolding narrow pairWord
   sent e i = i ∙ sym e
 
-  pub narrow-call : h % 256 ≡ 13 → r ≡ tableWord (h % 256) (h / 256 % wideLimit + taggedLimit * (h / 256 / wideLimit % wideLimit)) → r ≡ narrow h
+  pub narrow-call : h % wideKinds ≡ 13 → r ≡ tableWord (h % wideKinds) (h / wideKinds % wideLimit + taggedLimit * (h / wideKinds / wideLimit % wideLimit)) → r ≡ narrow h
   unfolding narrowBy
   narrow-call e = sent (rw e)
 
-  pub narrow-send : h % 256 ≡ 14 → r ≡ tableWord (h % 256) (h / 256 % wideLimit + taggedLimit * (h / 256 / wideLimit % wideLimit)) → r ≡ narrow h
+  pub narrow-send : h % wideKinds ≡ 14 → r ≡ tableWord (h % wideKinds) (h / wideKinds % wideLimit + taggedLimit * (h / wideKinds / wideLimit % wideLimit)) → r ≡ narrow h
   unfolding narrowBy
   narrow-send e = sent (rw e)
 
-  pub narrow-ask : h % 256 ≡ 64 → r ≡ tableWord (h % 256) (h / 256 % wideLimit + taggedLimit * (h / 256 / wideLimit % wideLimit)) → r ≡ narrow h
+  pub narrow-ask : h % wideKinds ≡ 64 → r ≡ tableWord (h % wideKinds) (h / wideKinds % wideLimit + taggedLimit * (h / wideKinds / wideLimit % wideLimit)) → r ≡ narrow h
   unfolding narrowBy
   narrow-ask e = sent (rw e)
 
-  pub narrow-method : h % 256 ≡ 192 → MethodWord (h / 256) r → r ≡ narrow h
+  pub narrow-method : h % wideKinds ≡ 192 → MethodWord (h / wideKinds) r → r ≡ narrow h
   unfolding narrow narrowBy
   narrow-method e i = i .is ∙ rw e
 
-  pub narrow-other : (h % 256 ≡ 12 → ⊥) → (h % 256 ≡ 13 → ⊥) → (h % 256 ≡ 14 → ⊥) → (h % 256 ≡ 64 → ⊥) → (h % 256 ≡ 192 → ⊥) → r ≡ tableWord (h % 256) (h / 256) → r ≡ narrow h
+  pub narrow-other : (h % wideKinds ≡ 12 → ⊥) → (h % wideKinds ≡ 13 → ⊥) → (h % wideKinds ≡ 14 → ⊥) → (h % wideKinds ≡ 64 → ⊥) → (h % wideKinds ≡ 192 → ⊥) → r ≡ tableWord (h % wideKinds) (h / wideKinds) → r ≡ narrow h
   unfolding narrow narrowBy
-  narrow-other a b c d e i = i ∙ rw (ne-eqb (h % 256) 12 a, ne-eqb (h % 256) 13 b, ne-eqb (h % 256) 14 c, ne-eqb (h % 256) 64 d, ne-eqb (h % 256) 192 e)
+  narrow-other a b c d e i = i ∙ rw (ne-eqb (h % wideKinds) 12 a, ne-eqb (h % wideKinds) 13 b, ne-eqb (h % wideKinds) 14 c, ne-eqb (h % wideKinds) 64 d, ne-eqb (h % wideKinds) 192 e)
 
 -- ---- regions
 unfoldable pub Cleared : List ℕ → ℕ → ℕ → List ℕ → Type 0

@@ -11,28 +11,29 @@ use lib.ListN.{length, getD, length-append}
 use lib.Seq.{getD-at}
 use Rattle.layout.specs.Numbers.{fieldKind}
 use Rattle.layout.specs.Kinds.{rowIn}
+use Rattle.words.specs.Wide.{wideKinds}
 use Rattle.checks.specs.Trees.{Forest, empty, tree, words, count, outerBy, innerBy, outer, inner}
 
-pub outer-is : (h k r : ℕ) → h % 256 ≡ k → r ≡ outerBy k (h / 256) → r ≡ outer h
+pub outer-is : (h k r : ℕ) → h % wideKinds ≡ k → r ≡ outerBy k (h / wideKinds) → r ≡ outer h
 unfolding outer
-outer-is h k r e i = i ∙ ap (λ j. outerBy j (h / 256)) (sym e)
+outer-is h k r e i = i ∙ ap (λ j. outerBy j (h / wideKinds)) (sym e)
 
-pub inner-is : (h k r : ℕ) → h % 256 ≡ k → r ≡ innerBy k (h / 256) → r ≡ inner h
+pub inner-is : (h k r : ℕ) → h % wideKinds ≡ k → r ≡ innerBy k (h / wideKinds) → r ≡ inner h
 unfolding inner
-inner-is h k r e i = i ∙ ap (λ j. innerBy j (h / 256)) (sym e)
+inner-is h k r e i = i ∙ ap (λ j. innerBy j (h / wideKinds)) (sym e)
 
 abbrev Not : ℕ → ℕ → Type 0
-Not h k = h % 256 ≡ k → ⊥
+Not h k = h % wideKinds ≡ k → ⊥
 
-pub outer-row : (h r : ℕ) → Not h 11 → Not h 12 → Not h 13 → Not h 14 → Not h 15 → Not h 16 → Not h 17 → Not h 64 → Not h 66 → Not h 67 → Not h 68 → Not h fieldKind → r ≡ rowIn (h % 256) .operands → r ≡ outer h
+pub outer-row : (h r : ℕ) → Not h 11 → Not h 12 → Not h 13 → Not h 14 → Not h 15 → Not h 16 → Not h 17 → Not h 64 → Not h 66 → Not h 67 → Not h 68 → Not h fieldKind → r ≡ rowIn (h % wideKinds) .operands → r ≡ outer h
 unfolding outer
 outer-row h r a b c d e f g i j k l m p =
-    p ∙ rw (ne-eqb (h % 256) 11 a, ne-eqb (h % 256) 12 b, ne-eqb (h % 256) 13 c, ne-eqb (h % 256) 14 d, ne-eqb (h % 256) 15 e, ne-eqb (h % 256) 16 f, ne-eqb (h % 256) 17 g, ne-eqb (h % 256) 64 i, ne-eqb (h % 256) 66 j, ne-eqb (h % 256) 67 k, ne-eqb (h % 256) 68 l, ne-eqb (h % 256) fieldKind m)
+    p ∙ rw (ne-eqb (h % wideKinds) 11 a, ne-eqb (h % wideKinds) 12 b, ne-eqb (h % wideKinds) 13 c, ne-eqb (h % wideKinds) 14 d, ne-eqb (h % wideKinds) 15 e, ne-eqb (h % wideKinds) 16 f, ne-eqb (h % wideKinds) 17 g, ne-eqb (h % wideKinds) 64 i, ne-eqb (h % wideKinds) 66 j, ne-eqb (h % wideKinds) 67 k, ne-eqb (h % wideKinds) 68 l, ne-eqb (h % wideKinds) fieldKind m)
 
 pub inner-none : (h : ℕ) → Not h 11 → Not h 12 → Not h 15 → Not h 16 → Not h 17 → Not h 65 → Not h 67 → Not h 192 → 0 ≡ inner h
 unfolding inner
 inner-none h a b c d e f g i =
-    rw (ne-eqb (h % 256) 11 a, ne-eqb (h % 256) 12 b, ne-eqb (h % 256) 15 c, ne-eqb (h % 256) 16 d, ne-eqb (h % 256) 17 e, ne-eqb (h % 256) 65 f, ne-eqb (h % 256) 67 g, ne-eqb (h % 256) 192 i)
+    rw (ne-eqb (h % wideKinds) 11 a, ne-eqb (h % wideKinds) 12 b, ne-eqb (h % wideKinds) 15 c, ne-eqb (h % wideKinds) 16 d, ne-eqb (h % wideKinds) 17 e, ne-eqb (h % wideKinds) 65 f, ne-eqb (h % wideKinds) 67 g, ne-eqb (h % wideKinds) 192 i)
 
 -- ---- where words stand: v at `at` in the words s, before `end`
 pub record Here (s : List ℕ) (end at : ℕ) (v : List ℕ) : Type 0 where

@@ -6,26 +6,26 @@ use borrow.Author.Tests.{ne-eqb}
 use Rattle.atlite.specs.Term.{Kind}
 use Rattle.atlite.specs.Table.{countFields, countMethods, Grammatical, GrammaticalAll, GrammaticalFields, GrammaticalMethods}
 use Rattle.atlite.specs.Script.{SrcOp, Src, num, null, var, op, letIn, future, fn, when, literal, Srcs, nil, cons, SrcFields, noField, field, SrcMethods, noMethod, method, countSrcs}
-use Rattle.layout.specs.Numbers.{fieldKind}
+use Rattle.layout.specs.Numbers.{fieldKind, digitLimit}
 use Rattle.layout.specs.Kinds.{Kinds}
 use Rattle.layout.specs.Terms.{kindNumber}
 use Rattle.layout.specs.Tables.{srcKind}
-use Rattle.words.specs.Wide.{wide, widePayload, wideMethod}
+use Rattle.words.specs.Wide.{wideKinds, wide, widePayload, wideMethod}
 use Rattle.checks.specs.Operators.{op-passed, op-outer}
 use Rattle.checks.specs.Trees.{Forest, empty, tree, count, outerBy, innerBy, outer, inner, Fits, put, putAll, putFields, putMethods, count-put, count-all, count-fields, count-methods}
 
 -- ---- a wide word's kind and payload
-pub kind-wide : (k p : ℕ) → k < 256 → wide k p % 256 ≡ k
+pub kind-wide : (k p : ℕ) → k < wideKinds → wide k p % wideKinds ≡ k
 kind-wide k p h = omega arith
 
-pub payload-wide : (k p : ℕ) → k < 256 → wide k p / 256 ≡ p
+pub payload-wide : (k p : ℕ) → k < wideKinds → wide k p / wideKinds ≡ p
 payload-wide k p h = omega arith
 
-outer-wide : (k p : ℕ) → k < 256 → outer (wide k p) ≡ outerBy k p
+outer-wide : (k p : ℕ) → k < wideKinds → outer (wide k p) ≡ outerBy k p
 unfolding outer
 outer-wide k p h = rw (kind-wide k p h, payload-wide k p h)
 
-inner-wide : (k p : ℕ) → k < 256 → inner (wide k p) ≡ innerBy k p
+inner-wide : (k p : ℕ) → k < wideKinds → inner (wide k p) ≡ innerBy k p
 unfolding inner
 inner-wide k p h = rw (kind-wide k p h, payload-wide k p h)
 
@@ -39,7 +39,7 @@ unfolding count
 count-none = refl
 
 -- a word whose operands are as many as its kind and payload say, with all their own
-fits : (k p : ℕ) (a c r : Forest) (m n : ℕ) → k < 256 → count a ≡ m → count c ≡ n → m ≡ outerBy k p → n ≡ innerBy k p → Fits a → Fits c → Fits r → Fits (tree (wide k p) a c r)
+fits : (k p : ℕ) (a c r : Forest) (m n : ℕ) → k < wideKinds → count a ≡ m → count c ≡ n → m ≡ outerBy k p → n ≡ innerBy k p → Fits a → Fits c → Fits r → Fits (tree (wide k p) a c r)
 unfolding Fits
 fits k p a c r m n h ca cc′ ea ec fa fc fr = (ca ∙ ea ∙ sym (outer-wide k p h), cc′ ∙ ec ∙ sym (inner-wide k p h), fa, fc, fr)
 
@@ -53,20 +53,20 @@ op-inner o p =
     let s = op-passed o in
     rw (ne-eqb (srcKind o) 11 (s .noLet), ne-eqb (srcKind o) 12 (s .noFuture), ne-eqb (srcKind o) 15 (s .noObject), ne-eqb (srcKind o) 16 (s .noIsolate), ne-eqb (srcKind o) 17 (s .noActor), ne-eqb (srcKind o) 65 (s .noFn), ne-eqb (srcKind o) 67 (s .noWhen), ne-eqb (srcKind o) 192 (λ e. omega (arith, s .below)))
 
-parts : (k : Kind) (f m : ℕ) → f ≤ 4 → m ≤ 4 → (a c r : Forest) → count a ≡ f → count c ≡ m → Fits a → Fits c → Fits r → Fits (tree (wide (kindNumber k) (f + 8 * m)) a c r)
+parts : (k : Kind) (f m : ℕ) → f ≤ 4 → m ≤ 4 → (a c r : Forest) → count a ≡ f → count c ≡ m → Fits a → Fits c → Fits r → Fits (tree (wide (kindNumber k) (f + digitLimit * m)) a c r)
 unfolding kindNumber
 parts k f m hf hm a c r ca cm fa fc fr =
-    let x : f ≡ (f + 8 * m) % 8 = omega arith in
-    let y : m ≡ (f + 8 * m) / 8 % 8 = rw quotient (omega arith) in
+    let x : f ≡ (f + digitLimit * m) % digitLimit = omega arith in
+    let y : m ≡ (f + digitLimit * m) / digitLimit % digitLimit = rw quotient (omega arith) in
     go k x y
   where
-    quotient : (f + 8 * m) / 8 ≡ m
+    quotient : (f + digitLimit * m) / digitLimit ≡ m
     quotient = omega arith
 
-    go : (k : Kind) → f ≡ (f + 8 * m) % 8 → m ≡ (f + 8 * m) / 8 % 8 → Fits (tree (wide (kindNumber k) (f + 8 * m)) a c r)
-    go Kind.object x y = fits 15 (f + 8 * m) a c r f m (omega arith) ca cm x y fa fc fr
-    go Kind.isolate x y = fits 16 (f + 8 * m) a c r f m (omega arith) ca cm x y fa fc fr
-    go Kind.actor x y = fits 17 (f + 8 * m) a c r f m (omega arith) ca cm x y fa fc fr
+    go : (k : Kind) → f ≡ (f + digitLimit * m) % digitLimit → m ≡ (f + digitLimit * m) / digitLimit % digitLimit → Fits (tree (wide (kindNumber k) (f + digitLimit * m)) a c r)
+    go Kind.object x y = fits 15 (f + digitLimit * m) a c r f m (omega arith) ca cm x y fa fc fr
+    go Kind.isolate x y = fits 16 (f + digitLimit * m) a c r f m (omega arith) ca cm x y fa fc fr
+    go Kind.actor x y = fits 17 (f + digitLimit * m) a c r f m (omega arith) ca cm x y fa fc fr
 
 mutual
   unfolding put Grammatical wideMethod Kinds

@@ -7,11 +7,11 @@ use mathlib.Core.List.{List, [], _∷_, _++_, append-assoc, append-nil}
 use lib.Dec.{eqb}
 use Rattle.atlite.specs.Table.{countFields, countMethods}
 use Rattle.atlite.specs.Script.{Src, num, null, var, op, letIn, future, fn, when, literal, Srcs, nil, cons, SrcFields, noField, field, SrcMethods, noMethod, method, countSrcs}
-use Rattle.layout.specs.Numbers.{fieldKind}
+use Rattle.layout.specs.Numbers.{fieldKind, digitLimit}
 use Rattle.layout.specs.Kinds.{rowIn}
 use Rattle.layout.specs.Terms.{kindNumber}
 use Rattle.layout.specs.Tables.{srcKind}
-use Rattle.words.specs.Wide.{wide, pair, widePayload, wideMethod, wideSrc, wideSrcs, wideFields, wideMethods, wideLimit}
+use Rattle.words.specs.Wide.{wideKinds, wide, pair, widePayload, wideMethod, wideSrc, wideSrcs, wideFields, wideMethods, wideLimit}
 
 pub data Forest : Type 0 where
   empty : Forest
@@ -32,9 +32,9 @@ outerBy k p =
     (cond (eqb k 12) 0
     (cond (eqb k 13) (1 + p / wideLimit % 4)
     (cond (eqb k 14) (1 + p / wideLimit % 4)
-    (cond (eqb k 15) (p % 8)
-    (cond (eqb k 16) (p % 8)
-    (cond (eqb k 17) (p % 8)
+    (cond (eqb k 15) (p % digitLimit)
+    (cond (eqb k 16) (p % digitLimit)
+    (cond (eqb k 17) (p % digitLimit)
     (cond (eqb k 64) (1 + p / wideLimit % 4)
     (cond (eqb k 66) 2
     (cond (eqb k 67) 1
@@ -46,19 +46,19 @@ abbrev pub innerBy : ℕ → ℕ → ℕ
 innerBy k p =
     cond (eqb k 11) 1
     (cond (eqb k 12) 1
-    (cond (eqb k 15) (p / 8 % 8)
-    (cond (eqb k 16) (p / 8 % 8)
-    (cond (eqb k 17) (p / 8 % 8)
+    (cond (eqb k 15) (p / digitLimit % digitLimit)
+    (cond (eqb k 16) (p / digitLimit % digitLimit)
+    (cond (eqb k 17) (p / digitLimit % digitLimit)
     (cond (eqb k 65) 1
     (cond (eqb k 67) 1
     (cond (eqb k 192) 1
     0)))))))
 
 unfoldable pub outer : ℕ → ℕ
-outer h = outerBy (h % 256) (h / 256)
+outer h = outerBy (h % wideKinds) (h / wideKinds)
 
 unfoldable pub inner : ℕ → ℕ
-inner h = innerBy (h % 256) (h / 256)
+inner h = innerBy (h % wideKinds) (h / wideKinds)
 
 -- every word has as many operands as it says
 unfoldable pub Fits : Forest → Type 0
@@ -74,7 +74,7 @@ unfoldable mutual
   put (op o es) r = tree (wide (srcKind o) (widePayload o (countSrcs es))) (putAll es empty) empty r
   put (letIn x e d) r = tree (wide 11 x) (put e empty) (put d empty) r
   put (future x y e) r = tree (wide 12 (pair x y)) empty (put e empty) r
-  put (literal k fs ms) r = tree (wide (kindNumber k) (countFields fs + 8 * countMethods ms)) (putFields fs empty) (putMethods ms empty) r
+  put (literal k fs ms) r = tree (wide (kindNumber k) (countFields fs + digitLimit * countMethods ms)) (putFields fs empty) (putMethods ms empty) r
   put (fn x e) r = tree (wide 65 x) empty (put e empty) r
   put (when e x d) r = tree (wide 67 x) (put e empty) (put d empty) r
 

@@ -10,6 +10,7 @@ ghost use lib.ListN.{replicate};
 ghost use Rattle.checks.specs.BoundLines.{LinesBound, AllBound};
 ghost use Rattle.checks.specs.Bound.{sees as seesIn, Base, binds as bindsOf, bindAll, Swapped, Bound, Unbound, Kept, Scanned};
 use crate::tree;
+use words::wide;
 
 // What three names were bound at.
 struct Levels {
@@ -22,8 +23,8 @@ struct Levels {
 fn sees(h: u64, base: u16, last: &[u16; 4096]) -> bool
     ensures { λ r. ⌜ r ≡ seesIn h base (now (last .entry)) ⌝ }
 {
-    if h % 256 == 6 {
-        let x = (h / 256 % 4096) as usize;
+    if h % wide::KINDS == 6 {
+        let x = (h / wide::KINDS % wide::LIMIT) as usize;
         if x == 0 {
             return true;
         }
@@ -39,7 +40,7 @@ fn sees(h: u64, base: u16, last: &[u16; 4096]) -> bool
 fn base_of(h: u64, base: u16, level: u16) -> u16
     ensures { λ r. ⌜ Base h base level r ⌝ }
 {
-    let k = h % 256;
+    let k = h % wide::KINDS;
     match k {
         16 => level,
         17 => level,
@@ -51,14 +52,14 @@ fn base_of(h: u64, base: u16, level: u16) -> u16
 fn binds(h: u64) -> u64
     ensures { λ r. ⌜ r ≡ bindsOf h ⌝ }
 {
-    let k = h % 256;
-    let p = h / 256;
+    let k = h % wide::KINDS;
+    let p = h / wide::KINDS;
     match k {
         11 => p,
         12 => p,
         65 => p,
         67 => p,
-        192 => p / 16384,
+        192 => p / wide::PARAMS,
         _ => 0,
     }
 }
@@ -77,9 +78,9 @@ fn swap(last: &mut [u16; 4096], x: usize, v: u16) -> u16
 fn bind(last: &mut [u16; 4096], names: u64, v: u16) -> Levels
     ensures { λ r. ⌜ Bound (now (last .entry)) names v (now (last .exit)) (r .x) (r .y) (r .z) ⌝ }
 {
-    let z = swap(last, (names / 16777216 % 4096) as usize, v);
-    let y = swap(last, (names / 4096 % 4096) as usize, v);
-    let x = swap(last, (names % 4096) as usize, v);
+    let z = swap(last, (names / wide::THIRD % wide::LIMIT) as usize, v);
+    let y = swap(last, (names / wide::LIMIT % wide::LIMIT) as usize, v);
+    let x = swap(last, (names % wide::LIMIT) as usize, v);
     Levels { x, y, z }
 }
 
@@ -87,9 +88,9 @@ fn bind(last: &mut [u16; 4096], names: u64, v: u16) -> Levels
 fn unbind(last: &mut [u16; 4096], names: u64, old: Levels)
     ensures { λ r. ⌜ Unbound (now (last .entry)) names (now (last .exit)) (old .x) (old .y) (old .z) ⌝ }
 {
-    swap(last, (names % 4096) as usize, old.x);
-    swap(last, (names / 4096 % 4096) as usize, old.y);
-    swap(last, (names / 16777216 % 4096) as usize, old.z);
+    swap(last, (names % wide::LIMIT) as usize, old.x);
+    swap(last, (names / wide::LIMIT % wide::LIMIT) as usize, old.y);
+    swap(last, (names / wide::THIRD % wide::LIMIT) as usize, old.z);
 }
 
 // The end of the `n` trees at `at`, or 8192 where a variable in them is not bound.
@@ -165,12 +166,12 @@ fn lines_bound(
         return false;
     }
     let h = s[at];
-    if h % 256 == 130 {
+    if h % wide::KINDS == 130 {
         let e = scan(s, words, at + 1, 1, 0, level, last);
         if e == 8192 {
             return false;
         }
-        let x = (h / 256 % 4096) as usize;
+        let x = (h / wide::KINDS % wide::LIMIT) as usize;
         let old = swap(last, x, level + 1);
         let r = lines_bound(s, words, e, left - 1, level + 1, last);
         swap(last, x, old);

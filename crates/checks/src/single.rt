@@ -4,18 +4,19 @@ ghost use Prim.Native.Nat.{_≤_};
 ghost use Rattle.checks.specs.Single.{fresh as freshIn, apart as areApart, own as ownOf, noted as notedBy, Walked};
 ghost use Rattle.checks.specs.SingleLines.{LinesSingle, Single};
 use crate::tree;
+use words::wide;
 
 // Whether `x` is none of the last three names in `names`.
 fn fresh(names: u64, x: u64) -> bool
     ensures { λ r. ⌜ r ≡ freshIn names x ⌝ }
 {
-    if names % 4096 == x {
+    if names % wide::LIMIT == x {
         return false;
     }
-    if names / 4096 % 4096 == x {
+    if names / wide::LIMIT % wide::LIMIT == x {
         return false;
     }
-    if names / 16777216 % 4096 == x {
+    if names / wide::THIRD % wide::LIMIT == x {
         return false;
     }
     true
@@ -47,22 +48,22 @@ fn apart(x: u64, y: u64, z: u64) -> bool
 fn own(h: u64, names: u64) -> bool
     ensures { λ r. ⌜ r ≡ ownOf h names ⌝ }
 {
-    let k = h % 256;
-    let p = h / 256;
+    let k = h % wide::KINDS;
+    let p = h / wide::KINDS;
     match k {
         12 => {
-            if p % 4096 == p / 4096 % 4096 {
+            if p % wide::LIMIT == p / wide::LIMIT % wide::LIMIT {
                 return false;
             }
             true
         }
-        128 => fresh(names, p % 4096),
+        128 => fresh(names, p % wide::LIMIT),
         192 => {
-            if fresh(names, p % 4096) {
+            if fresh(names, p % wide::LIMIT) {
                 return apart(
-                    p / 16384 % 4096,
-                    p / 16384 / 4096 % 4096,
-                    p / 16384 / 16777216 % 4096,
+                    p / wide::PARAMS % wide::LIMIT,
+                    p / wide::PARAMS / wide::LIMIT % wide::LIMIT,
+                    p / wide::PARAMS / wide::THIRD % wide::LIMIT,
                 );
             }
             false
@@ -75,10 +76,10 @@ fn own(h: u64, names: u64) -> bool
 fn noted(h: u64, names: u64) -> u64
     ensures { λ r. ⌜ r ≡ notedBy h names ⌝ }
 {
-    if h % 256 < 128 {
+    if h % wide::KINDS < 128 {
         return names;
     }
-    h / 256 % 4096 + 4096 * (names % 68719476736)
+    h / wide::KINDS % wide::LIMIT + wide::LIMIT * (names % wide::NAMES)
 }
 
 // The end of the `n` trees at `at`, or 8192 where a list in them names one thing twice. `names` are those of the headers before them.

@@ -1,4 +1,5 @@
 // The nodes of a script.
+use words::wide;
 ghost use Prim.Native.Nat.{_+_, _≤_};
 ghost use Rattle.checks.specs.Size.{NodeOf, Size};
 
@@ -6,7 +7,7 @@ ghost use Rattle.checks.specs.Size.{NodeOf, Size};
 fn is_node(h: u64) -> usize
     ensures { λ r. ⌜ NodeOf h r ⌝ }
 {
-    if h % 256 < 128 { 1 } else { 0 }
+    if h % wide::KINDS < 128 { 1 } else { 0 }
 }
 
 // The nodes of the script that the lines in the first `words` words are when joined: theirs, and one for each line but the last.

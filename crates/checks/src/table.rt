@@ -1,51 +1,79 @@
 // The words of a table, from a script in its scratch form and its dictionary.
 use layout::LINES;
 use layout::TABLE;
+use words::wide;
 ghost use mathlib.Core.Path.{_≡_};
 ghost use Prim.Native.Nat.{_+_, _*_, _/_, _%_, _≤_, _<_};
 ghost use lib.ListN.{length, set};
 ghost use Rattle.layout.specs.Numbers.{linesSize, tableWords};
+ghost use Rattle.words.specs.Wide.{wideKinds};
 ghost use Rattle.checks.specs.Narrow.{tableWord, narrow as narrowed};
 ghost use Rattle.checks.specs.TableRegions.{Written};
 ghost use Rattle.checks.specs.TableWriteLaws.{Placed, MethodWord, Cleared, LinesPut, WordPut, WordsPut};
 
+// The layout's numbers, as wide as the words of the scratch form.
+const PAYLOAD: u64 = layout::PAYLOAD as u64;
+
+const METHOD_UNIT: u64 = layout::METHOD_UNIT as u64;
+
+const METHOD_HEADER: u64 = 3 * METHOD_UNIT;
+
+const NAME_LIMIT: u64 = layout::NAME_LIMIT as u64;
+
+const NO_NAME: u64 = layout::NO_NAME as u64;
+
+const TAGGED_LIMIT: u64 = layout::TAGGED_LIMIT as u64;
+
 // The table's word of kind `k` and payload `p`.
 fn table_word(k: u64, p: u64) -> u32
-    requires { ⌜ k < 256 ⌝ }
+    requires { ⌜ k < wideKinds ⌝ }
     ensures { λ r. ⌜ r ≡ tableWord k p ⌝ }
 {
-    (p % 16777216 + 16777216 * k) as u32
+    (p % PAYLOAD + PAYLOAD * k) as u32
 }
 
 // A parameter's place: an empty one, 0 here, is 127 in a table.
 fn placed(x: u64) -> u64
     ensures { λ r. ⌜ Placed x r ⌝ }
 {
-    if x == 0 { 127 } else { x }
+    if x == 0 { NO_NAME } else { x }
 }
 
 // A method's header.
 fn method_word(p: u64) -> u32
     ensures { λ r. ⌜ MethodWord p r ⌝ }
 {
-    let x = placed(p / 16384 % 4096);
-    let y = placed(p / 16384 / 4096 % 4096);
-    let z = placed(p / 16384 / 16777216 % 4096);
-    let w = p % 4096 + 128 * (p / 4096 % 4 + 4 * (x + 128 * (y + 128 * z)));
-    (w % 1073741824 + 3221225472) as u32
+    let x = placed(p / wide::PARAMS % wide::LIMIT);
+    let y = placed(p / wide::PARAMS / wide::LIMIT % wide::LIMIT);
+    let z = placed(p / wide::PARAMS / wide::THIRD % wide::LIMIT);
+    let w = p % wide::LIMIT
+        + NAME_LIMIT * (p / wide::LIMIT % 4 + 4 * (x + NAME_LIMIT * (y + NAME_LIMIT * z)));
+    (w % METHOD_UNIT + METHOD_HEADER) as u32
 }
 
 // A wide word as a table's.
 fn narrow(h: u64) -> u32
     ensures { λ r. ⌜ r ≡ narrowed h ⌝ }
 {
-    let k = h % 256;
-    let p = h / 256;
+    let k = h % wide::KINDS;
+    let p = h / wide::KINDS;
     match k {
-        12 => table_word(k, p % 4096 + 128 * (p / 4096 % 4096)),
-        13 => table_word(k, p % 4096 + 512 * (p / 4096 % 4096)),
-        14 => table_word(k, p % 4096 + 512 * (p / 4096 % 4096)),
-        64 => table_word(k, p % 4096 + 512 * (p / 4096 % 4096)),
+        12 => table_word(
+            k,
+            p % wide::LIMIT + NAME_LIMIT * (p / wide::LIMIT % wide::LIMIT),
+        ),
+        13 => table_word(
+            k,
+            p % wide::LIMIT + TAGGED_LIMIT * (p / wide::LIMIT % wide::LIMIT),
+        ),
+        14 => table_word(
+            k,
+            p % wide::LIMIT + TAGGED_LIMIT * (p / wide::LIMIT % wide::LIMIT),
+        ),
+        64 => table_word(
+            k,
+            p % wide::LIMIT + TAGGED_LIMIT * (p / wide::LIMIT % wide::LIMIT),
+        ),
         192 => method_word(p),
         _ => table_word(k, p),
     }

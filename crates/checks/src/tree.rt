@@ -4,22 +4,23 @@ ghost use Prim.Native.Nat.{_≤_};
 ghost use Rattle.checks.specs.Lines.{Start};
 ghost use Rattle.checks.specs.Trees.{outer as outerOf, inner as innerOf};
 use layout::kinds;
+use words::wide;
 
 // Those in the word's own scope: of a literal the fields, of a message the receiver and the arguments.
 pub fn outer(h: u64) -> usize
     ensures { λ r. ⌜ r ≡ outerOf h ⌝ }
 {
-    let k = h % 256;
-    let p = h / 256;
+    let k = h % wide::KINDS;
+    let p = h / wide::KINDS;
     match k {
         11 => 1,
         12 => 0,
-        13 => (1 + p / 4096 % 4) as usize,
-        14 => (1 + p / 4096 % 4) as usize,
-        15 => (p % 8) as usize,
-        16 => (p % 8) as usize,
-        17 => (p % 8) as usize,
-        64 => (1 + p / 4096 % 4) as usize,
+        13 => (1 + p / wide::LIMIT % 4) as usize,
+        14 => (1 + p / wide::LIMIT % 4) as usize,
+        15 => (p % wide::DIGIT) as usize,
+        16 => (p % wide::DIGIT) as usize,
+        17 => (p % wide::DIGIT) as usize,
+        64 => (1 + p / wide::LIMIT % 4) as usize,
         66 => 2,
         67 => 1,
         68 => 2,
@@ -32,14 +33,14 @@ pub fn outer(h: u64) -> usize
 pub fn inner(h: u64) -> usize
     ensures { λ r. ⌜ r ≡ innerOf h ⌝ }
 {
-    let k = h % 256;
-    let p = h / 256;
+    let k = h % wide::KINDS;
+    let p = h / wide::KINDS;
     match k {
         11 => 1,
         12 => 1,
-        15 => (p / 8 % 8) as usize,
-        16 => (p / 8 % 8) as usize,
-        17 => (p / 8 % 8) as usize,
+        15 => (p / wide::DIGIT % wide::DIGIT) as usize,
+        16 => (p / wide::DIGIT % wide::DIGIT) as usize,
+        17 => (p / wide::DIGIT % wide::DIGIT) as usize,
         65 => 1,
         67 => 1,
         192 => 1,
@@ -52,7 +53,7 @@ pub fn line_start(h: u64, at: usize) -> usize
     requires { ⌜ at ≤ 8192 ⌝ }
     ensures { λ r. ⌜ Start h at r ⌝ }
 {
-    if h % 256 == 130 {
+    if h % wide::KINDS == 130 {
         return at + 1;
     }
     at

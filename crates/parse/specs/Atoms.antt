@@ -10,6 +10,7 @@ use Rattle.atlite.specs.Lexicon.{Bytes, isDigit, isNumber, decimal, dictionary}
 use Rattle.atlite.specs.Reader.{readWord, spacedWord}
 use Rattle.atlite.specs.Term.{top}
 use Rattle.scan.specs.WordNumbers.{Holds}
+use Rattle.words.specs.Wide.{wideLimit}
 use Rattle.parse.specs.declared.numbers.Number.{Number as Numbers}
 use Rattle.parse.specs.declared.numbers.Number.the-variants.{Is, Not}
 use Rattle.parse.specs.declared.names.Name.{Name}
@@ -45,7 +46,7 @@ pub record NameRead (R : Result (ℕ × Bytes)) (t : Bytes) (at x i : ℕ) : Typ
   pub is : R ≡ done (x, drop i t)
   pub far : at < i
   pub within : i ≤ length t
-  pub small : x < 4096
+  pub small : x < wideLimit
 
 unfoldable pub Named : Result (ℕ × Bytes) → Bytes → ℕ → Name → Type 0
 Named R t at (Word x i) = NameRead R t at x i

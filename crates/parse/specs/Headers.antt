@@ -12,7 +12,7 @@ use lib.ListN.{length, drop}
 use Rattle.atlite.specs.Base.{Result, done, refused, orRefuse, _>>=_, _>>_, if_then_else_, bytes}
 use Rattle.atlite.specs.Lexicon.{Bytes, dictionary}
 use Rattle.atlite.specs.Reader.{Reading, spacedWord, readWord, readItems, readParams, readNames, readHead}
-use Rattle.words.specs.Wide.{wide, pair, wideParams, wideMethod, wideLimit, wideThird}
+use Rattle.words.specs.Wide.{wide, pair, wideParams, wideMethod, wideLimit, wideThird, wideNames}
 use Rattle.scan.specs.Runs.{Starts}
 use Rattle.parse.specs.declared.names.Name.{Name}
 use Rattle.parse.specs.declared.names.Name.the-variants.{Word, NoWord}
@@ -31,7 +31,7 @@ pub record NamesRead (k : ℕ) (R : Result (List ℕ × Bytes)) (t : Bytes) (at 
   pub counted : c ≡ length value
   pub packed : q ≡ wideParams value
   pub few : c ≤ k
-  pub small : q < 4096 ^ k
+  pub small : q < wideLimit ^ k
 
 unfoldable pub TookNames : ℕ → Result (List ℕ × Bytes) → Bytes → ℕ → Heads → Type 0
 TookNames k R t at (Names i c q) = NamesRead k R t at i c q
@@ -83,7 +83,7 @@ module _ (t : Bytes) (at : ℕ) (r : Bool) (s : Starts t at (41 ∷ []) r) where
     counted = refl;
     packed = refl;
     few = omega arith;
-    small = rw (pow-zero 4096) (omega arith);
+    small = rw (pow-zero wideLimit) (omega arith);
   }
   items-close (suc k) e = record {
     value = [];
@@ -93,7 +93,7 @@ module _ (t : Bytes) (at : ℕ) (r : Bool) (s : Starts t at (41 ∷ []) r) where
     counted = refl;
     packed = refl;
     few = omega arith;
-    small = lt-of-lt-of-le (omega arith) (pow-le-pow-right {n = 4096} (omega arith) {i = 0} {j = suc k} (omega arith));
+    small = lt-of-lt-of-le (omega arith) (pow-le-pow-right {n = wideLimit} (omega arith) {i = 0} {j = suc k} (omega arith));
   }
 
   pub items-full : (k : ℕ) → r ≡ false → k ≡ 0 → ItemsOf k t at NoNames
@@ -120,7 +120,7 @@ module _ (t : Bytes) (at : ℕ) (r : Bool) (s : Starts t at (41 ∷ []) r) where
         counted = omega arith;
         packed = rw p;
         few = omega arith;
-        small = rw (pow-succ' 4096 k) (omega arith);
+        small = rw (pow-succ' wideLimit k) (omega arith);
       }
 
   module _ (k : ℕ) (e : r ≡ false) (z : k ≡ 0 → ⊥) (x : Name) (s′ : SpacedName t at x) where
@@ -207,7 +207,7 @@ module _ (t : Bytes) (at : ℕ) (r : Bool) (s : Starts t at (41 ∷ []) r) where
 module _ (t : Bytes) (at K : ℕ) (h : Heads) (i c q : ℕ) (v : ItemsOf K t at h) (w : h ≡ Names i c q) where
   bounds : K ≤ 2 → (c ≤ 2) × (q < wideThird)
   unfolding ItemsOf TookNames
-  bounds l = let b = rw w at v in let f = b .few in (omega arith, lt-of-lt-of-le (b .small) (pow-le-pow-right {n = 4096} (omega arith) {j = 2} l))
+  bounds l = let b = rw w at v in let f = b .few in (omega arith, lt-of-lt-of-le (b .small) (pow-le-pow-right {n = wideLimit} (omega arith) {j = 2} l))
 
 module _ (t : Bytes) (at k : ℕ) (h : Heads) (i c q : ℕ) (l : k ≤ 2) (v : ItemsOf (k - 1) t at h) (w : h ≡ Names i c q) where
   pub count-fits : Fits w64 (c + 1)
@@ -216,7 +216,7 @@ module _ (t : Bytes) (at k : ℕ) (h : Heads) (i c q : ℕ) (l : k ≤ 2) (v : I
   pub scaled-fits′ : Fits w64 (wideLimit * q)
   scaled-fits′ = let b = bounds t at (k - 1) h i c q v w (omega arith) in record { fits = omega arith }
 
-  pub packed-fits : (y : ℕ) → y < 4096 → Fits w64 (y + wideLimit * q)
+  pub packed-fits : (y : ℕ) → y < wideLimit → Fits w64 (y + wideLimit * q)
   packed-fits y m = let b = bounds t at (k - 1) h i c q v w (omega arith) in record { fits = omega arith }
 
 module _ (t : Bytes) (at : ℕ) (h : Heads) (i c q : ℕ) (v : ItemsOf 2 t at h) (w : h ≡ Names i c q) where
@@ -226,10 +226,10 @@ module _ (t : Bytes) (at : ℕ) (h : Heads) (i c q : ℕ) (v : ItemsOf 2 t at h)
   pub scaled-fits₂ : Fits w64 (wideLimit * q)
   scaled-fits₂ = let b = bounds t at 2 h i c q v w (omega arith) in record { fits = omega arith }
 
-  pub packed-fits₂ : (y : ℕ) → y < 4096 → Fits w64 (y + wideLimit * q)
+  pub packed-fits₂ : (y : ℕ) → y < wideLimit → Fits w64 (y + wideLimit * q)
   packed-fits₂ y m = let b = bounds t at 2 h i c q v w (omega arith) in record { fits = omega arith }
 
-pub spaced-small : (t : Bytes) (at : ℕ) (c : Name) (y i : ℕ) → SpacedName t at c → c ≡ Word y i → y < 4096
+pub spaced-small : (t : Bytes) (at : ℕ) (c : Name) (y i : ℕ) → SpacedName t at c → c ≡ Word y i → y < wideLimit
 unfolding SpacedName Named
 spaced-small t at c y i n d = rw d at n .small
 
@@ -245,7 +245,7 @@ pub names-few : (t : Bytes) (at : ℕ) (h : Heads) (i c q : ℕ) → NamesOf t a
 unfolding NamesOf TookNames
 names-few t at h i c q v w = rw w at v .few
 
-pub names-small : (t : Bytes) (at : ℕ) (h : Heads) (i c q : ℕ) → NamesOf t at h → h ≡ Names i c q → q < 68719476736
+pub names-small : (t : Bytes) (at : ℕ) (h : Heads) (i c q : ℕ) → NamesOf t at h → h ≡ Names i c q → q < wideNames
 unfolding NamesOf TookNames
 names-small t at h i c q v w = rw w at v .small
 

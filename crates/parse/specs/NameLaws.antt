@@ -17,6 +17,7 @@ use Rattle.scan.specs.Runs.{Run, Starts, index}
 use Rattle.scan.specs.Keywords.{index-le}
 use Rattle.scan.specs.WordNumbers.{lowPart, highPart, Placed}
 use Rattle.scan.specs.DictionaryLaws.{word-nonempty, word-is, not-apply, word-room}
+use Rattle.words.specs.Wide.{wideLimit}
 use Rattle.parse.specs.declared.names.Name.{Name}
 use Rattle.parse.specs.declared.names.Name.the-variants.{Word, NoWord}
 use Rattle.parse.specs.Atoms.{Ready, NameRead, Named, NameOf, SpacedName}
@@ -154,7 +155,7 @@ module _ (t : Bytes) (at : ℕ) (x : Name) (s : SpacedName t at x) where
   spaced-refused e = rw e at s
 
 -- the number of a word that was read has twelve bits
-pub name-small : (t : Bytes) (at : ℕ) (c : Name) (y i : ℕ) → NameOf t at c → c ≡ Word y i → y < 4096
+pub name-small : (t : Bytes) (at : ℕ) (c : Name) (y i : ℕ) → NameOf t at c → c ≡ Word y i → y < wideLimit
 unfolding NameOf Named
 name-small t at c y i n d = rw d at n .small
 

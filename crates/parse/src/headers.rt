@@ -1,11 +1,13 @@
 // A method's header: its name and its parameters, in one word.
 ghost use Prim.Native.Nat.{_≤_, _<_};
 ghost use lib.ListN.{length};
+ghost use Rattle.words.specs.Wide.{wideLimit};
 ghost use Rattle.parse.specs.Atoms.{Ready};
 ghost use Rattle.parse.specs.Headers.{ItemsOf, NamesOf, ParamsOf, HeaderOf};
 use crate::names::Name;
 use crate::names::spaced_word;
 use crate::names::word_at;
+use crate::scratch::LIMIT;
 use crate::scratch::method_word;
 
 // Parameters: the position behind them, their count and their names as one number, or a refusal.
@@ -34,7 +36,7 @@ pub fn method_head(text: &[u8], at: usize, low: &[u64], high: &[u32], count: usi
 
 // The parameters of the method named `m`.
 fn params(text: &[u8], at: usize, low: &[u64], high: &[u32], count: usize, m: usize) -> Header
-    requires { ⌜ Ready (now text) (now low) (now high) count × (at ≤ length (now text)) × (m < 4096) ⌝ }
+    requires { ⌜ Ready (now text) (now low) (now high) count × (at ≤ length (now text)) × (m < wideLimit) ⌝ }
     ensures { λ r. ⌜ ParamsOf m (now (text .entry)) at r ⌝ }
 {
     if scan::starts(text, at, b" (") {
@@ -64,7 +66,7 @@ fn names(text: &[u8], at: usize, low: &[u64], high: &[u32], count: usize) -> Hea
         Name::Word(y, i) => {
             let r = items(text, i, low, high, count, 2);
             match r {
-                Heads::Names(j, c, q) => Heads::Names(j, c + 1, y + 4096 * q),
+                Heads::Names(j, c, q) => Heads::Names(j, c + 1, y + LIMIT * q),
                 Heads::NoNames => Heads::NoNames,
             }
         }
@@ -88,7 +90,7 @@ fn items(text: &[u8], at: usize, low: &[u64], high: &[u32], count: usize, k: usi
         Name::Word(y, i) => {
             let r = items(text, i, low, high, count, k - 1);
             match r {
-                Heads::Names(j, c, q) => Heads::Names(j, c + 1, y + 4096 * q),
+                Heads::Names(j, c, q) => Heads::Names(j, c + 1, y + LIMIT * q),
                 Heads::NoNames => Heads::NoNames,
             }
         }

@@ -3,8 +3,15 @@ ghost use mathlib.Core.Path.{_≡_};
 ghost use Prim.Native.Nat.{_+_, _*_, _≤_, _<_};
 ghost use lib.ListN.{length, set};
 ghost use Rattle.atlite.specs.Term.{top};
-ghost use Rattle.words.specs.Wide.{wide, pair};
+ghost use Rattle.layout.specs.Numbers.{digitLimit};
+ghost use Rattle.words.specs.Wide.{wide, wideLimit, pair, wideNames};
 ghost use Rattle.parse.specs.DescentContract.{Place, Closed};
+use words::wide;
+
+// The numbers of the scratch form that positions and counts are put together with.
+pub const LIMIT: usize = wide::LIMIT as usize;
+
+const DIGIT: usize = wide::DIGIT as usize;
 
 // The next positions in the text and in the words, or a refusal.
 pub enum Step {
@@ -40,36 +47,36 @@ pub fn close(text: &[u8], at: usize, out: &mut [u64], o: usize, w: u64, p: usize
 
 // Head words: a kind with one name, with two numbers.
 pub fn head(k: u8, x: usize) -> u64
-    requires { ⌜ x < 4096 ⌝ }
+    requires { ⌜ x < wideLimit ⌝ }
     ensures { λ r. ⌜ r ≡ wide k x ⌝ }
 {
-    (k as u64) + 256 * (x as u64)
+    (k as u64) + wide::KINDS * (x as u64)
 }
 
 pub fn head2(k: u8, x: usize, y: usize) -> u64
-    requires { ⌜ (x < 4096) × (y < 4096) ⌝ }
+    requires { ⌜ (x < wideLimit) × (y < wideLimit) ⌝ }
     ensures { λ r. ⌜ r ≡ wide k (pair x y) ⌝ }
 {
-    (k as u64) + 256 * ((x + 4096 * y) as u64)
+    (k as u64) + wide::KINDS * ((x + LIMIT * y) as u64)
 }
 
 pub fn number_word(n: usize) -> u64
     requires { ⌜ n ≤ top ⌝ }
     ensures { λ r. ⌜ r ≡ wide 2 n ⌝ }
 {
-    2 + 256 * (n as u64)
+    2 + wide::KINDS * (n as u64)
 }
 
 pub fn method_word(m: usize, c: usize, q: usize) -> u64
-    requires { ⌜ (m < 4096) × (c ≤ 3) × (q < 68719476736) ⌝ }
+    requires { ⌜ (m < wideLimit) × (c ≤ 3) × (q < wideNames) ⌝ }
     ensures { λ r. ⌜ r ≡ wide 192 (pair m (c + 4 * q)) ⌝ }
 {
-    192 + 256 * ((m + 4096 * (c + 4 * q)) as u64)
+    192 + wide::KINDS * ((m + LIMIT * (c + 4 * q)) as u64)
 }
 
 pub fn literal_head(k: u8, c: usize, d: usize) -> u64
     requires { ⌜ (c ≤ 4) × (d ≤ 4) ⌝ }
-    ensures { λ r. ⌜ r ≡ wide k (c + 8 * d) ⌝ }
+    ensures { λ r. ⌜ r ≡ wide k (c + digitLimit * d) ⌝ }
 {
-    (k as u64) + 256 * ((c + 8 * d) as u64)
+    (k as u64) + wide::KINDS * ((c + DIGIT * d) as u64)
 }

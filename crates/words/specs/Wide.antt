@@ -9,13 +9,17 @@ use mathlib.Core.List.{List, [], _∷_, _++_}
 use lib.ListN.{length}
 use Rattle.atlite.specs.Script.{SrcOp, srcShape, Src, num, null, var, op, letIn, future, fn, when, literal, Srcs, nil, cons, SrcFields, noField, field, SrcMethods, noMethod, method, Line, expression, define, countSrcs}
 use Rattle.atlite.specs.Table.{countFields, countMethods}
-use Rattle.layout.specs.Numbers.{fieldKind}
+use Rattle.layout.specs.Numbers.{fieldKind, digitLimit}
 use Rattle.layout.specs.Pack.{flat}
 use Rattle.layout.specs.Terms.{labelNumber, kindNumber}
 use Rattle.layout.specs.Tables.{srcKind}
 
+-- kinds are below it
+abbrev pub wideKinds : ℕ
+wideKinds = 256
+
 abbrev pub wide : ℕ → ℕ → ℕ
-wide k p = k + 256 * p
+wide k p = k + wideKinds * p
 
 -- names are below it
 abbrev pub wideLimit : ℕ
@@ -25,9 +29,12 @@ wideLimit = 4096
 abbrev pub pair : ℕ → ℕ → ℕ
 pair x y = x + wideLimit * y
 
--- where the third of three names stands, and a method's parameters behind its name and their number
+-- where the third of three names stands, what three of them are below, and a method's parameters behind its name and their number
 abbrev pub wideThird : ℕ
 wideThird = wideLimit * wideLimit
+
+abbrev pub wideNames : ℕ
+wideNames = wideThird * wideLimit
 
 abbrev pub wideParamsAt : ℕ
 wideParamsAt = wideLimit * 4
@@ -53,7 +60,7 @@ unfoldable mutual
   wideSrc (op o es) = wide (srcKind o) (widePayload o (countSrcs es)) ∷ wideSrcs es
   wideSrc (letIn x e d) = wide 11 x ∷ (wideSrc e ++ wideSrc d)
   wideSrc (future x y e) = wide 12 (pair x y) ∷ wideSrc e
-  wideSrc (literal k fs ms) = wide (kindNumber k) (countFields fs + 8 * countMethods ms) ∷ (wideFields fs ++ wideMethods ms)
+  wideSrc (literal k fs ms) = wide (kindNumber k) (countFields fs + digitLimit * countMethods ms) ∷ (wideFields fs ++ wideMethods ms)
   wideSrc (fn x e) = wide 65 x ∷ wideSrc e
   wideSrc (when e x d) = wide 67 x ∷ (wideSrc e ++ wideSrc d)
 

@@ -1,9 +1,11 @@
-// Runs of words and bytes, compared and copied.
+// Runs of words and bytes, compared and copied; `wide` has the numbers of the scratch form of a script.
 ghost use Prim.Native.Nat.{_≤_};
 ghost use lib.Dec.{eqb};
 ghost use lib.ListN.{length, take};
 ghost use Rattle.layout.specs.Pack.{zeros};
 ghost use Rattle.words.specs.Runs.{Still, Same, Copied};
+
+pub mod wide;
 
 // One more pair of words.
 fn still(same: bool, x: u32, y: u32) -> bool
