@@ -1,28 +1,30 @@
 // The listing of a state from its words. The same code measures the listing, into no text, and writes it. Words that are no
 // state are listed as some text too, so that nothing here fails.
+mod messages;
+
 use layout::BODIES;
 use layout::BODIES_SIZE;
 use layout::COPIED;
+use layout::DIGIT;
+use layout::DIGITS;
 use layout::HEAD;
 use layout::HEADER;
 use layout::INBOX;
 use layout::MADE;
 use layout::NAME_LIMIT;
-use layout::NUMBER_LIMIT;
 use layout::PART;
 use layout::PAYLOAD;
+use layout::SLOT;
 use layout::SLOT_UNIT;
 use layout::WAITING;
-use showing::Place;
 ghost use mathlib.Core.Path.{_≡_};
 ghost use mathlib.Core.List.{[], _∷_};
 ghost use Prim.Native.Nat.{_+_, _*_, _≤_, _<_};
-ghost use lib.ListN.{length, drop, getD};
-ghost use Rattle.layout.specs.Numbers.{ownerLimit, partSize, stateWords};
+ghost use lib.ListN.{length, drop};
+ghost use Rattle.layout.specs.Numbers.{ownerLimit, slotSize, partSize, stateWords};
 ghost use Rattle.showing.specs.Writer.{Wrote};
-ghost use Rattle.lister.specs.TextOfState.{messageIn, aimIn, waitingIn, inboxIn, fieldsIn, kindIn, stateIn, entryIn, openingIn, partsIn, slotIn, slotsIn, spacedIn, titleIn, countsIn, exprIn, lineIn, entitiesIn, actorIn, actorsIn, listedIn};
+ghost use Rattle.lister.specs.TextOfState.{fieldsIn, kindIn, stateIn, entryIn, openingIn, partsIn, slotIn, slotsIn, spacedIn, titleIn, countsIn, exprIn, lineIn, entitiesIn, actorIn, actorsIn, listedIn};
 ghost use Rattle.lister.specs.ListContract.{Lists};
-ghost use Rattle.showing.specs.ShowContract.{Showed};
 ghost use Rattle.lister.specs.SlotContract.{Slotted};
 
 // The number that is no name.
@@ -33,74 +35,6 @@ pub struct Spot {
     pub body: usize,
     pub wait: usize,
     pub o: usize,
-}
-
-// The number in the reference at `at`, or zero.
-fn aim(t: &[u32], at: usize) -> u32
-    ensures { λ r. ⌜ r ≡ aimIn (getD (now (t .entry)) at 0) ⌝ }
-{
-    if t.len() <= at {
-        return 0;
-    }
-    if t[at] / PAYLOAD == 3 {
-        return t[at] % NUMBER_LIMIT;
-    }
-    0
-}
-
-// The message at `at`.
-fn show_message(t: &[u32], at: usize, out: &mut [u8], o: usize) -> usize
-    requires { ⌜ (o ≤ 1099511627776) × (length (now t) ≡ stateWords) × (at < stateWords) ⌝ }
-    ensures { λ r. ⌜ Wrote (now (out .entry)) o (messageIn (now (t .entry)) (drop at (now (t .entry)))) (now (out .exit)) r ⌝ }
-{
-    let h = t[at];
-    let p = showing::put_bytes(b"(message", out, o);
-    let r = showing::show_operands(
-        t,
-        at + 1,
-        (h % SLOT_UNIT) as usize,
-        (1 + h / SLOT_UNIT % 8) as usize,
-        out,
-        p,
-        1,
-    );
-    showing::put(b')', out, r.o)
-}
-
-// The messages at `at` to the entity `n`, at most `left`, each behind a space. Behind the last one stand zeros or a slot, whose
-// words have another kind, so no count is needed.
-fn show_waiting(t: &[u32], at: usize, n: u32, out: &mut [u8], o: usize, left: usize) -> Place
-    requires { ⌜ (o ≤ 1099511627776) × (length (now t) ≡ stateWords) × (left ≤ 16) ⌝ }
-    ensures { λ r. ⌜ Showed (now (t .entry)) (waitingIn (now (t .entry)) left n (drop at (now (t .entry)))) (now (out .entry)) o (now (out .exit)) (r .at) (r .o) ⌝ }
-{
-    if left == 0 {
-        return Place { at: at, o: o };
-    }
-    if t.len() <= at {
-        return Place { at: at, o: o };
-    }
-    if t[at] / PAYLOAD != 14 {
-        return Place { at: at, o: o };
-    }
-    if aim(t, at + 1) != n {
-        return Place { at: at, o: o };
-    }
-    let a = showing::put(b' ', out, o);
-    let p = show_message(t, at, out, a);
-    show_waiting(t, at + 6, n, out, p, left - 1)
-}
-
-// The `n` messages of an inbox, each a line.
-fn show_inbox(t: &[u32], n: usize, at: usize, out: &mut [u8], o: usize) -> usize
-    requires { ⌜ (o ≤ 1099511627776) × (length (now t) ≡ stateWords) × (at + 6 * n ≤ stateWords) ⌝ }
-    ensures { λ r. ⌜ Wrote (now (out .entry)) o (inboxIn (now (t .entry)) n (drop at (now (t .entry)))) (now (out .exit)) r ⌝ }
-{
-    if n == 0 {
-        return o;
-    }
-    let p = show_message(t, at, out, o);
-    let q = showing::put(b'\n', out, p);
-    show_inbox(t, n - 1, at + 6, out, q)
 }
 
 // The `n` fields with names in `x` and values at `at`, each behind a space.
@@ -162,10 +96,10 @@ fn put_opening(t: &[u32], a: u32, s: u32, h: u32, v: u32, out: &mut [u8], o: usi
     requires { ⌜ (o ≤ 1099511627776) × (length (now t) ≡ stateWords) × (a < ownerLimit) ⌝ }
     ensures { λ r. ⌜ Wrote (now (out .entry)) o (openingIn (now (t .entry)) a s h v) (now (out .exit)) r ⌝ }
 {
-    let b = put_entry(h % 8, a, out, o);
+    let b = put_entry(h % DIGIT, a, out, o);
     let c = showing::put_series(s, out, b);
     let d = showing::put_number(h / SLOT_UNIT, out, c);
-    put_state(t, h % 8, v, out, d)
+    put_state(t, h % DIGIT, v, out, d)
 }
 
 // A bracket and the end of a line.
@@ -191,9 +125,17 @@ fn show_parts(
     requires { ⌜ (o ≤ 1099511627776) × (length (now t) ≡ stateWords) ⌝ }
     ensures { λ r. ⌜ Slotted (now (t .entry)) (partsIn (now (t .entry)) h x (drop at (now (t .entry))) (drop body (now (t .entry))) (drop wait (now (t .entry)))) (now (out .entry)) o (now (out .exit)) (r .body) (r .wait) (r .o) ⌝ }
 {
-    let a = show_fields(t, (h / 8 % 8) as usize, x, at, out, o);
-    let m = showing::show_operands(t, body, NO_NAME, (h / 64 % 8) as usize, out, a, BODIES_SIZE);
-    let u = show_waiting(t, wait, h / SLOT_UNIT, out, m.o, 16);
+    let a = show_fields(t, (h / DIGIT % DIGIT) as usize, x, at, out, o);
+    let m = showing::show_operands(
+        t,
+        body,
+        NO_NAME,
+        (h / DIGITS % DIGIT) as usize,
+        out,
+        a,
+        BODIES_SIZE,
+    );
+    let u = messages::show_waiting(t, wait, h / SLOT_UNIT, out, m.o, 16);
     let p = put_end(out, u.o);
     Spot {
         body: m.at,
@@ -213,7 +155,7 @@ fn show_slot(
     out: &mut [u8],
     o: usize,
 ) -> Spot
-    requires { ⌜ (o ≤ 1099511627776) × (length (now t) ≡ stateWords) × (a < ownerLimit) × (at + 8 ≤ stateWords) ⌝ }
+    requires { ⌜ (o ≤ 1099511627776) × (length (now t) ≡ stateWords) × (a < ownerLimit) × (at + slotSize ≤ stateWords) ⌝ }
     ensures { λ r. ⌜ Slotted (now (t .entry)) (slotIn (now (t .entry)) a s (drop at (now (t .entry))) (drop body (now (t .entry))) (drop wait (now (t .entry)))) (now (out .entry)) o (now (out .exit)) (r .body) (r .wait) (r .o) ⌝ }
 {
     let p = put_opening(t, a, s, t[at], t[at + 2], out, o);
@@ -232,7 +174,7 @@ fn show_slots(
     out: &mut [u8],
     o: usize,
 ) -> Spot
-    requires { ⌜ (o ≤ 1099511627776) × (length (now t) ≡ stateWords) × (a < ownerLimit) × (at + 8 * n ≤ stateWords) ⌝ }
+    requires { ⌜ (o ≤ 1099511627776) × (length (now t) ≡ stateWords) × (a < ownerLimit) × (at + slotSize * n ≤ stateWords) ⌝ }
     ensures { λ r. ⌜ Slotted (now (t .entry)) (slotsIn (now (t .entry)) a s n (drop at (now (t .entry))) (drop body (now (t .entry))) (drop wait (now (t .entry)))) (now (out .entry)) o (now (out .exit)) (r .body) (r .wait) (r .o) ⌝ }
 {
     if n == 0 {
@@ -243,7 +185,7 @@ fn show_slots(
         };
     }
     let r = show_slot(t, a, s, at, body, wait, out, o);
-    show_slots(t, a, s, n - 1, at + 8, r.body, r.wait, out, r.o)
+    show_slots(t, a, s, n - 1, at + SLOT, r.body, r.wait, out, r.o)
 }
 
 // A number behind a space.
@@ -314,7 +256,7 @@ fn show_actor(t: &[u32], a: u32, at: usize, out: &mut [u8], o: usize) -> usize
     let n = (t[at + 3] % 32) as usize;
     let p = show_line(t, a, at, out, o);
     let q = show_entities(t, a, at, out, p);
-    show_inbox(t, n, at + INBOX, out, q)
+    messages::show_inbox(t, n, at + INBOX, out, q)
 }
 
 // The `n` actors from the number `a` on.

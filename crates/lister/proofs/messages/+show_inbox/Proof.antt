@@ -4,13 +4,13 @@ use Rattle.lister.specs.SlotLaws.{laws, inbox-more}
 use Prim.Native.Nat.{ℕ, _<_}
 use borrow.Fn.Kinds.{In}
 use borrow.Fn.PlainCycle.{Measures, is, falls, and}
-use Rattle.lister.proofs.show_inbox.Reads as show-inbox
-use Rattle.lister.proofs.show_inbox.Kinds as show-inbox-kinds
-use Rattle.lister.proofs.+show_inbox.Lts-show_inbox as show-inbox-lts
+use Rattle.lister.proofs.messages.show_inbox.Reads as show-inbox
+use Rattle.lister.proofs.messages.show_inbox.Kinds as show-inbox-kinds
+use Rattle.lister.proofs.messages.+show_inbox.Lts-show_inbox as show-inbox-lts
 use Rattle.showing.proofs.put.Reads as put-reads
-use Rattle.lister.proofs.show_message.Reads as show-message-reads
-use Rattle.lister.proofs.+show_inbox.{statement}
-use Rattle.lister.proofs.+show_inbox.Tie.{close}
+use Rattle.lister.proofs.messages.show_message.Reads as show-message-reads
+use Rattle.lister.proofs.messages.+show_inbox.{statement}
+use Rattle.lister.proofs.messages.+show_inbox.Tie.{close}
 
 abbrev μ-show-inbox : Measures 2 show-inbox-kinds.ps ℕ
 μ-show-inbox κs a = a .1 .0

@@ -4,14 +4,14 @@ use Rattle.lister.specs.SlotLaws.{waiting-full, waiting-end, waiting-non
 use Prim.Native.Nat.{ℕ, _<_}
 use borrow.Fn.Kinds.{In}
 use borrow.Fn.PlainCycle.{Measures, is, falls, and}
-use Rattle.lister.proofs.show_waiting.Reads as show-waiting
-use Rattle.lister.proofs.show_waiting.Kinds as show-waiting-kinds
-use Rattle.lister.proofs.+show_waiting.Lts-show_waiting as show-waiting-lts
-use Rattle.lister.proofs.aim.Reads as aim-reads
+use Rattle.lister.proofs.messages.show_waiting.Reads as show-waiting
+use Rattle.lister.proofs.messages.show_waiting.Kinds as show-waiting-kinds
+use Rattle.lister.proofs.messages.+show_waiting.Lts-show_waiting as show-waiting-lts
+use Rattle.lister.proofs.messages.aim.Reads as aim-reads
 use Rattle.showing.proofs.put.Reads as put-reads
-use Rattle.lister.proofs.show_message.Reads as show-message-reads
-use Rattle.lister.proofs.+show_waiting.{statement}
-use Rattle.lister.proofs.+show_waiting.Tie.{close}
+use Rattle.lister.proofs.messages.show_message.Reads as show-message-reads
+use Rattle.lister.proofs.messages.+show_waiting.{statement}
+use Rattle.lister.proofs.messages.+show_waiting.Tie.{close}
 
 abbrev μ-show-waiting : Measures 2 show-waiting-kinds.ps ℕ
 μ-show-waiting κs a = a .1 .1 .1 .1 .1 .0

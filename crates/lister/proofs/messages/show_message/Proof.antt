@@ -2,8 +2,8 @@
 use borrow.Author.Needs.{needs}
 use Rattle.atlite.specs.Base.{bytes}
 use Rattle.lister.specs.SlotLaws.{message-whole}
-use Rattle.lister.proofs.show_message.Statement.{statement}
-use Rattle.lister.proofs.show_message.Tie as tie
+use Rattle.lister.proofs.messages.show_message.Statement.{statement}
+use Rattle.lister.proofs.messages.show_message.Tie as tie
 
 pub show-message-spec : {M : Type 1} → statement M
 unfolding bytes

@@ -1,8 +1,8 @@
 -- `aim` meets its contract, by the laws of `SlotLaws`. Assumes nothing.
 use borrow.Author.Needs.{needs}
 use Rattle.lister.specs.SlotLaws.{laws}
-use Rattle.lister.proofs.aim.Statement.{statement}
-use Rattle.lister.proofs.aim.Tie as tie
+use Rattle.lister.proofs.messages.aim.Statement.{statement}
+use Rattle.lister.proofs.messages.aim.Tie as tie
 
 pub aim-spec : {M : Type 1} → statement M
 aim-spec =
