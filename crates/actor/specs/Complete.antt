@@ -112,7 +112,7 @@ module _ (K : List ℕ) (a W : ℕ) (w : List ℕ) (few : W ≤ 64) (l : a < own
         let q = flat encodeMessage (A .inbox) in
         let n = length (A .inbox) in
         let z = region-complete w inboxAt queueSize q _ (from-inbox (regions A fits) w whole) in
-        let c : length q ≡ 6 * n = messages-length (A .inbox) (fits .inboxFits) ∙ omega arith in
+        let c : length q ≡ messageSize * n = messages-length (A .inbox) (fits .inboxFits) ∙ omega arith in
         let t : zerosAt w (queueSize - messageSize * n) (inboxAt + messageSize * n) ≡ true = rw c at (z .1) in
         rw word3 (both₂ (inbox-complete K a W w l (A .inbox) inboxAt _ (z .0) (fits .inboxFits) (holds .inbox)) t)
 
@@ -131,7 +131,7 @@ module _ (K : List ℕ) (a W : ℕ) (w : List ℕ) (few : W ≤ 64) (l : a < own
         let M = length (A .made) in
         let f = queues-fit 0 (A .made) (fits .madeFits) in
         let z = region-complete w waitingAt queueSize q _ (from-waiting (regions A fits) w whole) in
-        let c : length q ≡ 6 * n = messages-length m f ∙ omega arith in
+        let c : length q ≡ messageSize * n = messages-length m f ∙ omega arith in
         let t : zerosAt w (queueSize - messageSize * n) (waitingAt + messageSize * n) ≡ true = rw c at (z .1) in
         let o = queues-ordered K a W w l (A .made) 0 0 M (fits .madeFits) (whole-each E (A .made) (holds .made)) kinds-are (omega arith) (omega arith) in
         rw (word4, word1) (both₂ (waiting-complete K a W w l M m 0 waitingAt _ (omega (arith, fits .madeCount)) (z .0) f o) t)
@@ -185,7 +185,7 @@ module _ (K : List ℕ) (a W : ℕ) (w : List ℕ) (few : W ≤ 64) (l : a < own
       made-holds =
           let m = length (A .made) in
           let z = region-complete w madeAt madeSize (slots 0 (A .made)) _ (from-made (regions A fits) w whole) in
-          let c : length (slots 0 (A .made)) ≡ 8 * m = slots-length 0 (A .made) (fits .madeFits) ∙ omega arith in
+          let c : length (slots 0 (A .made)) ≡ slotSize * m = slots-length 0 (A .made) (fits .madeFits) ∙ omega arith in
           let t : zerosAt w (madeSize - slotSize * m) (madeAt + slotSize * m) ≡ true = rw c at (z .1) in
           rw (word1, made-reached) (both₂ (le-leb e bodiesSize (short .0)) t)
 
@@ -194,7 +194,7 @@ module _ (K : List ℕ) (a W : ℕ) (w : List ℕ) (few : W ≤ 64) (l : a < own
       copied-holds =
           let m = length (A .copied) in
           let z = region-complete w copiedAt copiedSize (slots 0 (A .copied)) _ (from-copied (regions A fits) w whole) in
-          let c : length (slots 0 (A .copied)) ≡ 8 * m = slots-length 0 (A .copied) (fits .copiedFits) ∙ omega arith in
+          let c : length (slots 0 (A .copied)) ≡ slotSize * m = slots-length 0 (A .copied) (fits .copiedFits) ∙ omega arith in
           let t : zerosAt w (copiedSize - slotSize * m) (copiedAt + slotSize * m) ≡ true = rw c at (z .1) in
           rw (word2, copied-reached) (both₂ (le-leb d bodiesSize (short .1)) t)
 

@@ -15,7 +15,7 @@ use Rattle.atlite.specs.Valid.{All, isName, namesWithin, FieldsHeld}
 use Rattle.atlite.specs.Facts.{and₂, and₃, and₄, both₂, both₃, both₄}
 use Rattle.invariant.specs.Delivery.{fields-all}
 use Rattle.invariant.specs.TermTests.{Is, all-is, is-all}
-use Rattle.layout.specs.Numbers.{nameLimit}
+use Rattle.layout.specs.Numbers.{nameLimit, slotSize, slotBody}
 use Rattle.layout.specs.Pack.{zeros, pad, names}
 use Rattle.layout.specs.PackLaws.{pack-low, pack-high, length-pad, pad-front, Each, NameFits, names-back}
 use Rattle.layout.specs.Reading.{namesIn}
@@ -91,7 +91,7 @@ module _ (K : List ℕ) (a W : ℕ) (w : List ℕ) (few : W ≤ 64) where
   abbrev pub FieldsAre : ℕ → List Field → Type 0
   FieldsAre f F = (length F ≡ f) × (namesWithin 4 W (fieldNames F) ≡ true) × FieldsHeld P F × FieldsFit F
 
-  pub fields-sound : (f at : ℕ) → at + 8 ≤ length w → fieldsAt K a W w f at ≡ true → (F : List Field) × FieldsAre f F × Spans w (at + 1) (at + 6) (fieldWords F)
+  pub fields-sound : (f at : ℕ) → at + slotSize ≤ length w → fieldsAt K a W w f at ≡ true → (F : List Field) × FieldsAre f F × Spans w (at + 1) (at + slotBody) (fieldWords F)
   unfolding fieldsAt namesWithin fieldWords pad
   fields-sound f at i h =
       let x = getD w (at + 1) 0 in
@@ -114,7 +114,7 @@ module _ (K : List ℕ) (a W : ℕ) (w : List ℕ) (few : W ≤ 64) where
       let s2 = v .2 in
       let s3 = zeros-at w (4 - f) (at + 2 + f) (omega arith) (r .3) in
       let j2 : Spans w (at + 1) (at + 2 + f) (x ∷ valueWords vs) = span-join w (at + 1) (at + 2) (at + 2 + f) (x ∷ []) (valueWords vs) (span-end w (at + 1) (at + 1 + 1) (at + 2) (x ∷ []) s1 (omega arith)) s2 in
-      let j3 : Spans w (at + 1) (at + 6) (x ∷ (valueWords vs ++ zeros (4 - f))) = span-end w (at + 1) (at + 2 + f + (4 - f)) (at + 6) (x ∷ (valueWords vs ++ zeros (4 - f))) (span-join w (at + 1) (at + 2 + f) (at + 2 + f + (4 - f)) (x ∷ valueWords vs) (zeros (4 - f)) j2 s3) (omega arith) in (
+      let j3 : Spans w (at + 1) (at + slotBody) (x ∷ (valueWords vs ++ zeros (4 - f))) = span-end w (at + 1) (at + 2 + f + (4 - f)) (at + slotBody) (x ∷ (valueWords vs ++ zeros (4 - f))) (span-join w (at + 1) (at + 2 + f) (at + 2 + f + (4 - f)) (x ∷ valueWords vs) (zeros (4 - f)) j2 s3) (omega arith) in (
         F,
         (c, rw zn ok, held-all P F (rw zv (all-is (allowed K a) P (λ y k. k) vs (q .2))), (omega arith, rw zn (within-fits W few 4 xs ok .1), rw zv (v .0))),
         rw (zn, zv, n .0, k) j3,

@@ -8,7 +8,7 @@ use borrow.Author.Needs.{needs}
 use borrow.Author.Tests.{eq-eqb, ne-eqb, lt-ltb, le-ltb, le-leb, lt-leb}
 use lib.ListN.{getD}
 use Rattle.atlite.specs.Base.{all}
-use Rattle.layout.specs.Numbers.{payload, numberLimit, ownerUnit, slotSize, madeAt}
+use Rattle.layout.specs.Numbers.{payload, numberLimit, ownerUnit, digitLimit, messageSize, slotSize, madeAt}
 use Rattle.layout.specs.Parse.{valueAt, valuesAt, zerosAt}
 use Rattle.wellformed.specs.Kinds.{allowed}
 use Rattle.wellformed.specs.Words.{within, holds, sendIn}
@@ -73,13 +73,13 @@ module _ (K : List ℕ) (a W : ℕ) (w : List ℕ) (at : ℕ) where
         waits-high h = rw (eq-eqb (getD w (at + 1) 0 / numberLimit) (768 + 2 * a) o, le-leb lo aimed l, le-ltb aimed m h)
 
         module _ (i : getD w (at + 1) 0 % numberLimit < m) where
-          pub waits-kind : (getD w (madeAt + slotSize * (getD w (at + 1) 0 % numberLimit)) 0 % 8 ≡ 3 → ⊥) → false ≡ waitsAt K a W w m lo at
+          pub waits-kind : (getD w (madeAt + slotSize * (getD w (at + 1) 0 % numberLimit)) 0 % digitLimit ≡ 3 → ⊥) → false ≡ waitsAt K a W w m lo at
           unfolding waitsAt
-          waits-kind h = rw (eq-eqb (getD w (at + 1) 0 / numberLimit) (768 + 2 * a) o, le-leb lo aimed l, lt-ltb aimed m i, ne-eqb (getD w (madeAt + slotSize * aimed) 0 % 8) 3 h)
+          waits-kind h = rw (eq-eqb (getD w (at + 1) 0 / numberLimit) (768 + 2 * a) o, le-leb lo aimed l, lt-ltb aimed m i, ne-eqb (getD w (madeAt + slotSize * aimed) 0 % digitLimit) 3 h)
 
-          pub waits-all : getD w (madeAt + slotSize * (getD w (at + 1) 0 % numberLimit)) 0 % 8 ≡ 3 → (r : Bool) → r ≡ sentAt K a W w at → r ≡ waitsAt K a W w m lo at
+          pub waits-all : getD w (madeAt + slotSize * (getD w (at + 1) 0 % numberLimit)) 0 % digitLimit ≡ 3 → (r : Bool) → r ≡ sentAt K a W w at → r ≡ waitsAt K a W w m lo at
           unfolding waitsAt
-          waits-all h r s = rw (eq-eqb (getD w (at + 1) 0 / numberLimit) (768 + 2 * a) o, le-leb lo aimed l, lt-ltb aimed m i, eq-eqb (getD w (madeAt + slotSize * aimed) 0 % 8) 3 h) s
+          waits-all h r s = rw (eq-eqb (getD w (at + 1) 0 / numberLimit) (768 + 2 * a) o, le-leb lo aimed l, lt-ltb aimed m i, eq-eqb (getD w (madeAt + slotSize * aimed) 0 % digitLimit) 3 h) s
 
   -- ---- lists
   module _ (n : ℕ) where
@@ -92,25 +92,25 @@ module _ (K : List ℕ) (a W : ℕ) (w : List ℕ) (at : ℕ) where
     waiting-none m lo e = rw e
 
     module _ (z : n ≡ 0 → ⊥) (v : Bool) where
-      step-inbox : (k : ℕ) → n ≡ suc k → arrivalsAt K a W w n at ≡ (arrivedAt K a W w at && arrivalsAt K a W w k (at + 6))
+      step-inbox : (k : ℕ) → n ≡ suc k → arrivalsAt K a W w n at ≡ (arrivedAt K a W w at && arrivalsAt K a W w k (at + messageSize))
       unfolding arrivalsAt
       step-inbox k e = rw e
 
       pub inbox-stop : v ≡ arrivedAt K a W w at → v ≡ false → false ≡ arrivalsAt K a W w n at
       inbox-stop e t = rw (step-inbox (n - 1) (omega arith), ← e, t)
 
-      pub inbox-more : v ≡ arrivedAt K a W w at → v ≡ true → (r : Bool) → r ≡ arrivalsAt K a W w (n - 1) (at + 6) → r ≡ arrivalsAt K a W w n at
+      pub inbox-more : v ≡ arrivedAt K a W w at → v ≡ true → (r : Bool) → r ≡ arrivalsAt K a W w (n - 1) (at + messageSize) → r ≡ arrivalsAt K a W w n at
       inbox-more e t r h = rw (step-inbox (n - 1) (omega arith), ← e, t) h
 
       module _ (m lo : ℕ) where
-        step-waiting : (k : ℕ) → n ≡ suc k → waitersAt K a W w m n lo at ≡ (waitsAt K a W w m lo at && waitersAt K a W w m k (getD w (at + 1) 0 % numberLimit) (at + 6))
+        step-waiting : (k : ℕ) → n ≡ suc k → waitersAt K a W w m n lo at ≡ (waitsAt K a W w m lo at && waitersAt K a W w m k (getD w (at + 1) 0 % numberLimit) (at + messageSize))
         unfolding waitersAt
         step-waiting k e = rw e
 
         pub waiting-stop : v ≡ waitsAt K a W w m lo at → v ≡ false → false ≡ waitersAt K a W w m n lo at
         waiting-stop e t = rw (step-waiting (n - 1) (omega arith), ← e, t)
 
-        pub waiting-more : v ≡ waitsAt K a W w m lo at → v ≡ true → (r : Bool) → r ≡ waitersAt K a W w m (n - 1) (getD w (at + 1) 0 % numberLimit) (at + 6) → r ≡ waitersAt K a W w m n lo at
+        pub waiting-more : v ≡ waitsAt K a W w m lo at → v ≡ true → (r : Bool) → r ≡ waitersAt K a W w m (n - 1) (getD w (at + 1) 0 % numberLimit) (at + messageSize) → r ≡ waitersAt K a W w m n lo at
         waiting-more e t r h = rw (step-waiting (n - 1) (omega arith), ← e, t) h
 
 pub ruleset sent-laws = (needs, sent-kind, sent-many, sent-name, sent-values, sent-all)

@@ -14,7 +14,7 @@ use Rattle.atlite.specs.Term.{Value, Name}
 use Rattle.atlite.specs.State.{Message, message}
 use Rattle.atlite.specs.Valid.{sendable}
 use Rattle.atlite.specs.Facts.{and₅, both₂, both₄}
-use Rattle.layout.specs.Numbers.{payload, nameLimit, tagLimit}
+use Rattle.layout.specs.Numbers.{payload, nameLimit, tagLimit, messageSize}
 use Rattle.layout.specs.Layout.{encodeMessage}
 use Rattle.layout.specs.Slots.{MessageFits}
 use Rattle.layout.specs.Parse.{got, valueAt, nameOf, valuesAt, zerosAt, parseMessage}
@@ -57,7 +57,7 @@ all-facts w at =
     let name = nameOf (low x / nameLimit % tagLimit) (low x % nameLimit) in
     let to = valueAt (getD w (at + 1) 0) in
     let values = valuesAt w n (at + 2) in
-    ended-sure F (leb (at + 6) (length w)) _ (λ l.
+    ended-sure F (leb (at + messageSize) (length w)) _ (λ l.
     ended-sure F (eqb (x / payload) 14) _ (λ k.
     ended-sure F (ltb n 5) _ (λ c.
     ended-sure F (zerosAt w (4 - n) (at + 2 + n)) _ (λ z.
@@ -69,17 +69,17 @@ all-facts w at =
 message-facts : (w : List ℕ) (at : ℕ) (v : Value) (m : Name) (vs : List Value) (i : ℕ) → parseMessage w at ≡ got (message v m vs) i → Facts w at v m vs
 message-facts w at v m vs i h = ended (FactsOf w at) (parseMessage w at) (message v m vs) i (all-facts w at) h
 
-facts-message : (w : List ℕ) (at : ℕ) (v : Value) (m : Name) (vs : List Value) → at + 6 ≤ length w → Facts w at v m vs → parseMessage w at ≡ got (message v m vs) (at + 6)
+facts-message : (w : List ℕ) (at : ℕ) (v : Value) (m : Name) (vs : List Value) → at + messageSize ≤ length w → Facts w at v m vs → parseMessage w at ≡ got (message v m vs) (at + messageSize)
 unfolding parseMessage
-facts-message w at v m vs l f = rw (le-leb (at + 6) (length w) l, f .kind, f .few, f .rest, f .name, f .to, f .values)
+facts-message w at v m vs l f = rw (le-leb (at + messageSize) (length w) l, f .kind, f .few, f .rest, f .name, f .to, f .values)
 
 -- ---- the test
 module _ (K : List ℕ) (a W : ℕ) (w : List ℕ) (at : ℕ) where
   -- what is sent there to v
   abbrev pub SentTo : Value → Name → List Value → Type 0
-  SentTo v m vs = MessageAt w at (message v m vs) (at + 6) × (sendable W m (length vs) ≡ true) × (all (allowed K a) vs ≡ true)
+  SentTo v m vs = MessageAt w at (message v m vs) (at + messageSize) × (sendable W m (length vs) ≡ true) × (all (allowed K a) vs ≡ true)
 
-  pub sent-sound : (v : Value) → at + 6 ≤ length w → valueAt (getD w (at + 1) 0) ≡ some v → sentAt K a W w at ≡ true → (m : Name) × (vs : List Value) × SentTo v m vs
+  pub sent-sound : (v : Value) → at + messageSize ≤ length w → valueAt (getD w (at + 1) 0) ≡ some v → sentAt K a W w at ≡ true → (m : Name) × (vs : List Value) × SentTo v m vs
   unfolding sentAt sendIn
   sent-sound v l t h =
       let x = getD w at 0 in
@@ -90,15 +90,15 @@ module _ (K : List ℕ) (a W : ℕ) (w : List ℕ) (at : ℕ) where
       let f : Facts w at v (s .0) (q .0) = record { kind = r .0; few = r .1; rest = r .4; name = s .1; to = t; values = q .1 } in
       let b = ltb-true n 5 (r .1) in
       let c = holding (ValuesAt w n (at + 2)) (valuesAt w n (at + 2)) (q .0) (values-at w n (at + 2) (omega arith)) (q .1) in
-      (s .0, q .0, (message-sound w at (message v (s .0) (q .0)) (at + 6) (facts-message w at v (s .0) (q .0) l f), rw (c .1) (s .2), q .2))
+      (s .0, q .0, (message-sound w at (message v (s .0) (q .0)) (at + messageSize) (facts-message w at v (s .0) (q .0) l f), rw (c .1) (s .2), q .2))
 
-  pub sent-complete : (v : Value) (m : Name) (vs : List Value) (r : List ℕ) → at + 6 ≤ length w → MessageFits (message v m vs) → drop at w ≡ encodeMessage (message v m vs) ++ r
+  pub sent-complete : (v : Value) (m : Name) (vs : List Value) (r : List ℕ) → at + messageSize ≤ length w → MessageFits (message v m vs) → drop at w ≡ encodeMessage (message v m vs) ++ r
       → sendable W m (length vs) ≡ true → all (allowed K a) vs ≡ true → (valueAt (getD w (at + 1) 0) ≡ some v) × (sentAt K a W w at ≡ true)
   unfolding sentAt sendIn
   sent-complete v m vs r l h e s q =
       let x = getD w at 0 in
       let n = arguments x in
-      let f = message-facts w at v m vs (at + 6) (message-complete (message v m vs) w at r h e) in
+      let f = message-facts w at v m vs (at + messageSize) (message-complete (message v m vs) w at r h e) in
       let b = ltb-true n 5 (f .few) in
       let c = holding (ValuesAt w n (at + 2)) (valuesAt w n (at + 2)) vs (values-at w n (at + 2) (omega arith)) (f .values) in
       let t : sendable W m n ≡ true = rw (c .1) at s in

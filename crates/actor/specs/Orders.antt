@@ -12,7 +12,7 @@ use Rattle.atlite.specs.State.{Message, message, Entity, object, future, resolv
 use Rattle.atlite.specs.Valid.{All, Waits, IsEntity}
 use Rattle.atlite.specs.Facts.{get-below}
 use Rattle.invariant.specs.TermTests.{Is}
-use Rattle.layout.specs.Numbers.{ownerLimit, slotSize, madeAt}
+use Rattle.layout.specs.Numbers.{ownerLimit, digitLimit, slotSize, madeAt}
 use Rattle.layout.specs.PackLaws.{Each}
 use Rattle.layout.specs.Layout.{queue, queues}
 use Rattle.layout.specs.Decode.{aim, aimOf}
@@ -28,7 +28,7 @@ module _ (K : List ℕ) (a W : ℕ) (w : List ℕ) (l : a < ownerLimit) where
 
   -- the slots of h, the first of number n, say their kinds
   abbrev pub Kinds : ℕ → List Entity → Type 0
-  Kinds n h = (i : ℕ) (o : Entity) → getElem? h i ≡ some o → getD w (madeAt + slotSize * (n + i)) 0 % 8 ≡ kindOfEntity o
+  Kinds n h = (i : ℕ) (o : Entity) → getElem? h i ≡ some o → getD w (madeAt + slotSize * (n + i)) 0 % digitLimit ≡ kindOfEntity o
 
   -- ---- from the words to a heap
   pub ordered-sorted : (M lo : ℕ) (q : List Message) → Ordered K a W w l M lo q → Sorted lo q
@@ -52,10 +52,10 @@ module _ (K : List ℕ) (a W : ℕ) (w : List ℕ) (l : a < ownerLimit) where
           let b = o .0 .2 in
           let g = get-below h i (resolver 0) (omega arith) in
           let y : 0 + i ≡ aimOf v = omega arith in
-          (getD h i (resolver 0), g, sym (k i (getD h i (resolver 0)) g) ∙ ap (λ j. getD w (madeAt + slotSize * j) 0 % 8) y ∙ o .0 .3)
+          (getD h i (resolver 0), g, sym (k i (getD h i (resolver 0)) g) ∙ ap (λ j. getD w (madeAt + slotSize * j) 0 % digitLimit) y ∙ o .0 .3)
 
   -- ---- from a heap to the words
-  queue-ordered : (n M lo : ℕ) (q r : List Message) → All (Waits W P (ref a made n)) q → lo ≤ n → n < M → getD w (madeAt + slotSize * n) 0 % 8 ≡ 3
+  queue-ordered : (n M lo : ℕ) (q r : List Message) → All (Waits W P (ref a made n)) q → lo ≤ n → n < M → getD w (madeAt + slotSize * n) 0 % digitLimit ≡ 3
       → ((k : ℕ) → k ≤ suc n → Ordered K a W w l M k r) → Ordered K a W w l M lo (q ++ r)
   unfolding aim aimOf
   queue-ordered n M lo [] r h i j k rest = rest lo (omega arith)
@@ -72,7 +72,7 @@ module _ (K : List ℕ) (a W : ℕ) (w : List ℕ) (l : a < ownerLimit) where
   queues-ordered (o ∷ h) n lo M f g k i j = go o (k 0 o refl) (f .0) (g .0)
       (λ b d. queues-ordered h (suc n) b M (f .1) (g .1) (λ x u e. let z : n + suc x ≡ suc n + x = omega arith in rw z at (k (suc x) u e)) (omega arith) d)
     where
-      go : (o : Entity) → getD w (madeAt + slotSize * (n + 0)) 0 % 8 ≡ kindOfEntity o → EntityFits n o → IsEntity W P (futureBy K) a n o → ((b : ℕ) → b ≤ suc n → Ordered K a W w l M b (queues h)) → Ordered K a W w l M lo (queue o ++ queues h)
+      go : (o : Entity) → getD w (madeAt + slotSize * (n + 0)) 0 % digitLimit ≡ kindOfEntity o → EntityFits n o → IsEntity W P (futureBy K) a n o → ((b : ℕ) → b ≤ suc n → Ordered K a W w l M b (queues h)) → Ordered K a W w l M lo (queue o ++ queues h)
       go (object t F X) c e d rest = rest lo (omega arith)
       go (future none q) c e d rest = queue-ordered n M lo q (queues h) d j (omega arith) (rw (add-zero n) at c) rest
       go (future (some v) q) c e d rest = rw (e .1) (rest lo (omega arith))

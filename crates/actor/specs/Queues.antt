@@ -17,6 +17,7 @@ use Rattle.atlite.specs.State.{Message, O, I, Entity, object, future, resolver}
 use Rattle.atlite.specs.Limits.{bodyNodes}
 use Rattle.atlite.specs.Valid.{All, Waits, IsEntity}
 use Rattle.atlite.specs.Facts.{none-some}
+use Rattle.layout.specs.Numbers.{digitLimit, slotSize}
 use Rattle.layout.specs.PackLaws.{Each, each-map}
 use Rattle.layout.specs.Terms.{encodeMethods}
 use Rattle.layout.specs.Layout.{tagNumber, slot, slots, methodsOf, bodies, queue, queues}
@@ -26,22 +27,22 @@ use Rattle.layout.specs.Spans.{drop-past}
 use Rattle.actor.specs.Series.{EachFrom}
 
 -- ---- the kind in a slot's head
-kind-there : (w : List ℕ) (n at : ℕ) (o : Entity) (r : List ℕ) → EntityFits n o → drop at w ≡ slot n o ++ r → getD w at 0 % 8 ≡ kindOfEntity o
-kind-there w n at o r f e = ap (λ i. getD w i 0 % 8) (sym (add-zero at)) ∙ ap (λ x. x % 8) (sym (getD-drop at w 0 0) ∙ ap (λ l. getD l 0 0) e) ∙ slot-kind n o r f
+kind-there : (w : List ℕ) (n at : ℕ) (o : Entity) (r : List ℕ) → EntityFits n o → drop at w ≡ slot n o ++ r → getD w at 0 % digitLimit ≡ kindOfEntity o
+kind-there w n at o r f e = ap (λ i. getD w i 0 % digitLimit) (sym (add-zero at)) ∙ ap (λ x. x % digitLimit) (sym (getD-drop at w 0 0) ∙ ap (λ l. getD l 0 0) e) ∙ slot-kind n o r f
 
 pub slots-kind : (w : List ℕ) (h : List Entity) (n at : ℕ) (r : List ℕ) → EntitiesFit n h → drop at w ≡ slots n h ++ r
-    → (i : ℕ) (o : Entity) → getElem? h i ≡ some o → getD w (at + 8 * i) 0 % 8 ≡ kindOfEntity o
+    → (i : ℕ) (o : Entity) → getElem? h i ≡ some o → getD w (at + slotSize * i) 0 % digitLimit ≡ kindOfEntity o
 unfolding slots
 slots-kind w [] n at r f e i o g = absurd (none-some g)
 slots-kind w (u ∷ h) n at r f e zero o g =
     let q : u ≡ o = cc in
-    let z : at + 8 * 0 ≡ at = omega arith in
+    let z : at + slotSize * 0 ≡ at = omega arith in
     rw (z, ← q) (kind-there w n at u (slots (suc n) h ++ r) (f .0) (e ∙ append-assoc (slot n u) (slots (suc n) h) r))
 slots-kind w (u ∷ h) n at r f e (suc i) o g =
     let c : drop at w ≡ slot n u ++ (slots (suc n) h ++ r) = e ∙ append-assoc (slot n u) (slots (suc n) h) r in
-    let d : drop (at + 8) w ≡ slots (suc n) h ++ r = rw (slot-length n u (f .0)) at (drop-past w at (slot n u) (slots (suc n) h ++ r) c) in
-    let z : at + 8 * suc i ≡ at + 8 + 8 * i = omega arith in
-    rw z (slots-kind w h (suc n) (at + 8) r (f .1) d i o g)
+    let d : drop (at + slotSize) w ≡ slots (suc n) h ++ r = rw (slot-length n u (f .0)) at (drop-past w at (slot n u) (slots (suc n) h ++ r) c) in
+    let z : at + slotSize * suc i ≡ at + slotSize + slotSize * i = omega arith in
+    rw z (slots-kind w h (suc n) (at + slotSize) r (f .1) d i o g)
 
 -- ---- queues given
 unfoldable pub withQueue : Entity → List Message → Entity

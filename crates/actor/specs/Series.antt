@@ -11,7 +11,7 @@ use lib.ListN.{length, drop, getElem?, length-append}
 use Rattle.atlite.specs.State.{Entity}
 use Rattle.atlite.specs.Valid.{Each}
 use Rattle.atlite.specs.Facts.{none-some}
-use Rattle.layout.specs.Numbers.{bodiesSize}
+use Rattle.layout.specs.Numbers.{slotSize, bodiesSize}
 use Rattle.layout.specs.Terms.{encodeMethods}
 use Rattle.layout.specs.Layout.{slot, slots, methodsOf, bodies}
 use Rattle.layout.specs.Slots.{EntityFits, EntitiesFit, slot-length}
@@ -55,26 +55,26 @@ span-split w at m i xs ys z h =
 module _ (w B : List ℕ) (E : ℕ → Entity → Type 0) where
   -- the n-th entity of the series, in the slot at `at`, its methods from b to e
   abbrev pub Stands : ℕ → ℕ → ℕ → Entity → ℕ → Type 0
-  Stands n at b o e = Spans w at (at + 8) (slot n o) × Spans B b e (encodeMethods (methodsOf o)) × EntityFits n o × E n o
+  Stands n at b o e = Spans w at (at + slotSize) (slot n o) × Spans B b e (encodeMethods (methodsOf o)) × EntityFits n o × E n o
 
   -- k entities from the n-th on
   abbrev pub SeriesIs : ℕ → ℕ → ℕ → ℕ → ℕ → List Entity → Type 0
-  SeriesIs k n at b e h = (length h ≡ k) × Spans w at (at + 8 * k) (slots n h) × Spans B b e (bodies h) × EntitiesFit n h × EachFrom E n h
+  SeriesIs k n at b e h = (length h ≡ k) × Spans w at (at + slotSize * k) (slots n h) × Spans B b e (bodies h) × EntitiesFit n h × EachFrom E n h
 
   module _ (f : ℕ → ℕ → ℕ → ℕ) where
-    module _ (sound : (n at b e : ℕ) → at + 8 ≤ length w → e ≤ bodiesSize → f n at b ≡ e → (o : Entity) × Stands n at b o e) where
-      pub slots-sound : (k n at b e : ℕ) → at + 8 * k ≤ length w → e ≤ bodiesSize → slotsEnd f k n at b ≡ e → (h : List Entity) × SeriesIs k n at b e h
+    module _ (sound : (n at b e : ℕ) → at + slotSize ≤ length w → e ≤ bodiesSize → f n at b ≡ e → (o : Entity) × Stands n at b o e) where
+      pub slots-sound : (k n at b e : ℕ) → at + slotSize * k ≤ length w → e ≤ bodiesSize → slotsEnd f k n at b ≡ e → (h : List Entity) × SeriesIs k n at b e h
       unfolding slotsEnd slots bodies
-      slots-sound zero n at b e i l h = ([], (refl, span-end w at at (at + 8 * 0) [] (span-none w at) (omega arith), span-end B b b e [] (span-none B b) h, tt, tt))
+      slots-sound zero n at b e i l h = ([], (refl, span-end w at at (at + slotSize * 0) [] (span-none w at) (omega arith), span-end B b b e [] (span-none B b) h, tt, tt))
       slots-sound (suc k) n at b e i l h =
           let x = f n at b in
-          let r = reached-by (leb x bodiesSize) (slotsEnd f k (suc n) (at + 8) x) e h l in
+          let r = reached-by (leb x bodiesSize) (slotsEnd f k (suc n) (at + slotSize) x) e h l in
           let o = sound n at b x (omega arith) (leb-true x bodiesSize (r .0)) refl in
-          let s = slots-sound k (suc n) (at + 8) x e (omega arith) l (r .1) in (
+          let s = slots-sound k (suc n) (at + slotSize) x e (omega arith) l (r .1) in (
             o .0 ∷ s .0,
             (
               ap suc (s .1 .0),
-              span-end w at (at + 8 + 8 * k) (at + 8 * suc k) (slot n (o .0) ++ slots (suc n) (s .0)) (span-join w at (at + 8) (at + 8 + 8 * k) (slot n (o .0)) (slots (suc n) (s .0)) (o .1 .0) (s .1 .1)) (omega arith),
+              span-end w at (at + slotSize + slotSize * k) (at + slotSize * suc k) (slot n (o .0) ++ slots (suc n) (s .0)) (span-join w at (at + slotSize) (at + slotSize + slotSize * k) (slot n (o .0)) (slots (suc n) (s .0)) (o .1 .0) (s .1 .1)) (omega arith),
               span-join B b x e (encodeMethods (methodsOf (o .0))) (bodies (s .0)) (o .1 .1) (s .1 .2),
               (o .1 .2, s .1 .3),
               (o .1 .3, s .1 .4),
@@ -92,9 +92,9 @@ module _ (w B : List ℕ) (E : ℕ → Entity → Type 0) where
           let m = b + length y in
           let c : drop at w ≡ x ++ (slots (suc n) h ++ r) = d ∙ append-assoc x (slots (suc n) h) r in
           let eight = slot-length n o (g .0) in
-          let t : Spans w at (at + 8) x = span-end w at (at + length x) (at + 8) x (span-of w at x (slots (suc n) h ++ r) c) (omega arith) in
-          let c8 : drop (at + 8) w ≡ slots (suc n) h ++ r = rw eight at (drop-past w at x (slots (suc n) h ++ r) c) in
+          let t : Spans w at (at + slotSize) x = span-end w at (at + length x) (at + slotSize) x (span-of w at x (slots (suc n) h ++ r) c) (omega arith) in
+          let c8 : drop (at + slotSize) w ≡ slots (suc n) h ++ r = rw eight at (drop-past w at x (slots (suc n) h ++ r) c) in
           let u = span-split B b m e y (bodies h) refl s in
           let here : f n at b ≡ m = complete n at b m o (t, u .0, g .0, k .0) in
           let i : m ≤ bodiesSize = omega (arith, u .1 .1) in
-          rw (here, le-leb m bodiesSize i) (slots-complete h (suc n) (at + 8) m e r l c8 (u .1) (g .1) (k .1))
+          rw (here, le-leb m bodiesSize i) (slots-complete h (suc n) (at + slotSize) m e r l c8 (u .1) (g .1) (k .1))

@@ -12,7 +12,7 @@ use lib.Dec.{eqb, ltb, leb}
 use lib.ListN.{length, getD}
 use Rattle.atlite.specs.Base.{all}
 use Rattle.atlite.specs.Term.{made, null, ref}
-use Rattle.layout.specs.Numbers.{payload, slotUnit, bodiesSize}
+use Rattle.layout.specs.Numbers.{payload, digitLimit, digitsLimit, slotUnit, slotSize, slotBody, bodiesSize}
 use Rattle.layout.specs.TermReading.{refIn}
 use Rattle.layout.specs.Parse.{given, valueForms, valueIn, valueAt, valuesAt, zerosAt, parseMethods}
 use Rattle.wellformed.specs.Kinds.{kindAt, kindOf, allowed, futureBy}
@@ -73,13 +73,13 @@ pub ruleset own-laws = (needs, own-far, own-near)
 
 -- ---- a slot of neither fields nor methods
 module _ (w : List ℕ) (at : ℕ) where
-  pub plain-parts : (getD w at 0 / 8 % 64 ≡ 0 → ⊥) → false ≡ plainAt w at
+  pub plain-parts : (getD w at 0 / digitLimit % digitsLimit ≡ 0 → ⊥) → false ≡ plainAt w at
   unfolding plainAt
-  plain-parts h = rw (ne-eqb (getD w at 0 / 8 % 64) 0 h)
+  plain-parts h = rw (ne-eqb (getD w at 0 / digitLimit % digitsLimit) 0 h)
 
-  pub plain-names : getD w at 0 / 8 % 64 ≡ 0 → eqb (getD w (at + 1) 0) 0 ≡ plainAt w at
+  pub plain-names : getD w at 0 / digitLimit % digitsLimit ≡ 0 → eqb (getD w (at + 1) 0) 0 ≡ plainAt w at
   unfolding plainAt
-  plain-names h = rw (eq-eqb (getD w at 0 / 8 % 64) 0 h)
+  plain-names h = rw (eq-eqb (getD w at 0 / digitLimit % digitsLimit) 0 h)
 
   module _ (v : Bool) (e : v ≡ plainAt w at) where
     pub open-parts : v ≡ false → false ≡ openAt w at
@@ -150,11 +150,11 @@ module _ (K : List ℕ) (a W : ℕ) (w : List ℕ) (at : ℕ) where
         unfolding fieldsAt
         fields-all s r h = rw (lt-ltb n 5 l, ← e, t, ← d, s) h
 
-  module _ (refs : Bool) (B : List ℕ) (b e : ℕ) (d : e ≡ endOf (methodsHold W (holds refs K a)) (parseMethods (length B) B (getD w at 0 / 64 % 8) b)) where
+  module _ (refs : Bool) (B : List ℕ) (b e : ℕ) (d : e ≡ endOf (methodsHold W (holds refs K a)) (parseMethods (length B) B (getD w at 0 / digitsLimit % digitLimit) b)) where
     abbrev answer : ℕ
-    answer = objectEnd K a W w at b (methodsReach refs K a W B (getD w at 0 / 64 % 8) b)
+    answer = objectEnd K a W w at b (methodsReach refs K a W B (getD w at 0 / digitsLimit % digitLimit) b)
 
-    module _ (v : Bool) (g : v ≡ fieldsAt K a W w (getD w at 0 / 8 % 8) at) where
+    module _ (v : Bool) (g : v ≡ fieldsAt K a W w (getD w at 0 / digitLimit % digitLimit) at) where
       pub object-fields : v ≡ false → 4096 ≡ answer
       unfolding objectEnd
       object-fields t = rw (← g, t)
@@ -164,7 +164,7 @@ module _ (K : List ℕ) (a W : ℕ) (w : List ℕ) (at : ℕ) where
         unfolding objectEnd
         object-last h = rw (← g, t, ne-eqb (getD w (at + 7) 0) 0 h)
 
-        module _ (z : getD w (at + 7) 0 ≡ 0) (s : ℕ) (i : s ≡ getD w (at + 6) 0) where
+        module _ (z : getD w (at + 7) 0 ≡ 0) (s : ℕ) (i : s ≡ getD w (at + slotBody) 0) where
           pub object-size : (b + s ≡ e → ⊥) → 4096 ≡ answer
           unfolding objectEnd methodsReach
           object-size h = rw (← g, t, eq-eqb (getD w (at + 7) 0) 0 z, ← d, ← i, ne-eqb (b + s) e h)
@@ -188,29 +188,29 @@ module _ (K : List ℕ) (a W : ℕ) (w : List ℕ) (f g : ℕ → ℕ → ℕ) (
   copied-other h = rw (ne-eqb (getD w at 0 / slotUnit) n h)
 
   module _ (i : getD w at 0 / slotUnit ≡ n) where
-    made-kind : (k : ℕ) → getD w at 0 % 8 ≡ k → madeEnd K a W w f g n at b ≡ getD (slotForms K a W w f g (getD w at 0 / 64 % 8) at b) k 4096
+    made-kind : (k : ℕ) → getD w at 0 % digitLimit ≡ k → madeEnd K a W w f g n at b ≡ getD (slotForms K a W w f g (getD w at 0 / digitsLimit % digitLimit) at b) k 4096
     unfolding madeEnd
     made-kind k e = rw (eq-eqb (getD w at 0 / slotUnit) n i, e)
 
-    pub made-object : getD w at 0 % 8 ≡ 1 → (r : ℕ) → r ≡ objectEnd K a W w at b (f (getD w at 0 / 64 % 8) b) → r ≡ madeEnd K a W w f g n at b
+    pub made-object : getD w at 0 % digitLimit ≡ 1 → (r : ℕ) → r ≡ objectEnd K a W w at b (f (getD w at 0 / digitsLimit % digitLimit) b) → r ≡ madeEnd K a W w f g n at b
     made-object e r h = h ∙ sym (made-kind 1 e)
 
-    pub made-isolate : getD w at 0 % 8 ≡ 2 → (r : ℕ) → r ≡ objectEnd K a W w at b (g (getD w at 0 / 64 % 8) b) → r ≡ madeEnd K a W w f g n at b
+    pub made-isolate : getD w at 0 % digitLimit ≡ 2 → (r : ℕ) → r ≡ objectEnd K a W w at b (g (getD w at 0 / digitsLimit % digitLimit) b) → r ≡ madeEnd K a W w f g n at b
     made-isolate e r h = h ∙ sym (made-kind 2 e)
 
-    pub made-open : getD w at 0 % 8 ≡ 3 → (v : Bool) → v ≡ openAt w at → (r : ℕ) → r ≡ endIf v b → r ≡ madeEnd K a W w f g n at b
+    pub made-open : getD w at 0 % digitLimit ≡ 3 → (v : Bool) → v ≡ openAt w at → (r : ℕ) → r ≡ endIf v b → r ≡ madeEnd K a W w f g n at b
     made-open e v d r h = h ∙ ap (λ t. cond t b 4096) d ∙ sym (made-kind 3 e)
 
-    pub made-settled : getD w at 0 % 8 ≡ 4 → (v : Bool) → v ≡ settledAt K a w at → (r : ℕ) → r ≡ endIf v b → r ≡ madeEnd K a W w f g n at b
+    pub made-settled : getD w at 0 % digitLimit ≡ 4 → (v : Bool) → v ≡ settledAt K a w at → (r : ℕ) → r ≡ endIf v b → r ≡ madeEnd K a W w f g n at b
     made-settled e v d r h = h ∙ ap (λ t. cond t b 4096) d ∙ sym (made-kind 4 e)
 
-    pub made-resolver : getD w at 0 % 8 ≡ 5 → (v : Bool) → v ≡ resolverAt K a w at → (r : ℕ) → r ≡ endIf v b → r ≡ madeEnd K a W w f g n at b
+    pub made-resolver : getD w at 0 % digitLimit ≡ 5 → (v : Bool) → v ≡ resolverAt K a w at → (r : ℕ) → r ≡ endIf v b → r ≡ madeEnd K a W w f g n at b
     made-resolver e v d r h = h ∙ ap (λ t. cond t b 4096) d ∙ sym (made-kind 5 e)
 
-    pub made-none : (getD w at 0 % 8 ≡ 1 → ⊥) → (getD w at 0 % 8 ≡ 2 → ⊥) → (getD w at 0 % 8 ≡ 3 → ⊥) → (getD w at 0 % 8 ≡ 4 → ⊥) → (getD w at 0 % 8 ≡ 5 → ⊥) → 4096 ≡ madeEnd K a W w f g n at b
-    made-none h1 h2 h3 h4 h5 = go (getD w at 0 % 8) refl
+    pub made-none : (getD w at 0 % digitLimit ≡ 1 → ⊥) → (getD w at 0 % digitLimit ≡ 2 → ⊥) → (getD w at 0 % digitLimit ≡ 3 → ⊥) → (getD w at 0 % digitLimit ≡ 4 → ⊥) → (getD w at 0 % digitLimit ≡ 5 → ⊥) → 4096 ≡ madeEnd K a W w f g n at b
+    made-none h1 h2 h3 h4 h5 = go (getD w at 0 % digitLimit) refl
       where
-        go : (k : ℕ) → getD w at 0 % 8 ≡ k → 4096 ≡ madeEnd K a W w f g n at b
+        go : (k : ℕ) → getD w at 0 % digitLimit ≡ k → 4096 ≡ madeEnd K a W w f g n at b
         go zero e = sym (made-kind 0 e)
         go (suc zero) e = absurd (h1 e)
         go (suc (suc zero)) e = absurd (h2 e)
@@ -219,13 +219,13 @@ module _ (K : List ℕ) (a W : ℕ) (w : List ℕ) (f g : ℕ → ℕ → ℕ) (
         go (suc (suc (suc (suc (suc zero))))) e = absurd (h5 e)
         go (suc (suc (suc (suc (suc (suc k)))))) e = sym (made-kind (suc (suc (suc (suc (suc (suc k)))))) e)
 
-    pub copied-kind : (getD w at 0 % 8 ≡ 2 → ⊥) → 4096 ≡ copiedEnd K a W w f g n at b
+    pub copied-kind : (getD w at 0 % digitLimit ≡ 2 → ⊥) → 4096 ≡ copiedEnd K a W w f g n at b
     unfolding copiedEnd
-    copied-kind h = rw (eq-eqb (getD w at 0 / slotUnit) n i, ne-eqb (getD w at 0 % 8) 2 h)
+    copied-kind h = rw (eq-eqb (getD w at 0 / slotUnit) n i, ne-eqb (getD w at 0 % digitLimit) 2 h)
 
-    pub copied-all : getD w at 0 % 8 ≡ 2 → (r : ℕ) → r ≡ objectEnd K a W w at b (g (getD w at 0 / 64 % 8) b) → r ≡ copiedEnd K a W w f g n at b
+    pub copied-all : getD w at 0 % digitLimit ≡ 2 → (r : ℕ) → r ≡ objectEnd K a W w at b (g (getD w at 0 / digitsLimit % digitLimit) b) → r ≡ copiedEnd K a W w f g n at b
     unfolding copiedEnd
-    copied-all e r h = rw (eq-eqb (getD w at 0 / slotUnit) n i, eq-eqb (getD w at 0 % 8) 2 e) h
+    copied-all e r h = rw (eq-eqb (getD w at 0 / slotUnit) n i, eq-eqb (getD w at 0 % digitLimit) 2 e) h
 
 pub ruleset made-slot-laws = (needs, made-other, made-object, made-isolate, made-open, made-settled, made-resolver, made-none)
 
@@ -246,14 +246,14 @@ module _ (f : ℕ → ℕ → ℕ → ℕ) (k n at b : ℕ) where
     slots-done l = let z : left ≡ 0 = omega arith in sym (h .is ∙ rw z)
 
     module _ (l : 0 < left) (r : ℕ) (d : r ≡ f m i e) where
-      step : (j : ℕ) → left ≡ suc j → slotsEnd f left m i e ≡ cond (leb r bodiesSize) (slotsEnd f j (suc m) (i + 8) r) 4096
+      step : (j : ℕ) → left ≡ suc j → slotsEnd f left m i e ≡ cond (leb r bodiesSize) (slotsEnd f j (suc m) (i + slotSize) r) 4096
       unfolding slotsEnd
       step j z = rw (z, ← d)
 
       pub slots-far : bodiesSize < r → 4096 ≡ slotsEnd f k n at b
       slots-far g = sym (h .is ∙ rw (step (left - 1) (omega arith), lt-leb r bodiesSize g))
 
-      pub slots-next : r ≤ bodiesSize → Left f k n at b (left - 1) (m + 1) (i + 8) r
+      pub slots-next : r ≤ bodiesSize → Left f k n at b (left - 1) (m + 1) (i + slotSize) r
       slots-next g = record { is = h .is ∙ rw (step (left - 1) (omega arith), le-leb r bodiesSize g, ← add-one m) }
 
 pub ruleset slots-laws = (needs, slots-start, slots-done, slots-far, slots-next)

@@ -130,7 +130,7 @@ module _ (K : List ℕ) (a W : ℕ) (w : List ℕ) (few : W ≤ 64) (l : a < own
       let k = g .inbox in
       let r = and₂ (arrivalsAt K a W w n inboxAt) (zerosAt w (queueSize - messageSize * n) (inboxAt + messageSize * n)) h in
       let q = inbox-sound K a W w l n inboxAt (omega arith) (r .0) in
-      (q .0, q .1, region-sound w inboxAt queueSize (6 * n) (flat encodeMessage (q .0)) (omega arith) (omega arith) (q .1 .1) (r .1))
+      (q .0, q .1, region-sound w inboxAt queueSize (messageSize * n) (flat encodeMessage (q .0)) (omega arith) (omega arith) (q .1 .1) (r .1))
 
   waiting-part : Head → waitingHolds w K a W ≡ true → (q : List Message) × WaitingIs K a W w l (getD w 1 0) (getD w 4 0) 0 waitingAt q × Spans w waitingAt madeAt (pad queueSize (flat encodeMessage q))
   unfolding waitingHolds
@@ -140,7 +140,7 @@ module _ (K : List ℕ) (a W : ℕ) (w : List ℕ) (few : W ≤ 64) (l : a < own
       let k = g .waiting in
       let r = and₂ (waitersAt K a W w m n 0 waitingAt) (zerosAt w (queueSize - messageSize * n) (waitingAt + messageSize * n)) h in
       let q = waiting-sound K a W w l m n 0 waitingAt (omega arith) (r .0) in
-      (q .0, q .1, region-sound w waitingAt queueSize (6 * n) (flat encodeMessage (q .0)) (omega arith) (omega arith) (q .1 .1) (r .1))
+      (q .0, q .1, region-sound w waitingAt queueSize (messageSize * n) (flat encodeMessage (q .0)) (omega arith) (omega arith) (q .1 .1) (r .1))
 
   -- two series found, their bodies one behind the other
   heap-of : (h c : List Entity) (m k e d : ℕ) → getD w 1 0 ≡ m → getD w 2 0 ≡ k → m ≤ 32 → k ≤ 16 → d ≤ bodiesSize
@@ -156,8 +156,8 @@ module _ (K : List ℕ) (a W : ℕ) (w : List ℕ) (few : W ≤ 64) (l : a < own
       record {
         countH = sh .0 ∙ sym em;
         countC = sc .0 ∙ sym ek;
-        standsH = region-sound w madeAt madeSize (8 * m) (slots 0 h) (omega arith) (omega arith) (sh .1) zm;
-        standsC = region-sound w copiedAt copiedSize (8 * k) (slots 0 c) (omega arith) (omega arith) (sc .1) zk;
+        standsH = region-sound w madeAt madeSize (slotSize * m) (slots 0 h) (omega arith) (omega arith) (sh .1) zm;
+        standsC = region-sound w copiedAt copiedSize (slotSize * k) (slots 0 c) (omega arith) (omega arith) (sc .1) zk;
         fitsH = sh .3;
         fitsC = sc .3;
         holdsH = sh .4;

@@ -10,7 +10,7 @@ use lib.Dec.{eqb, ltb, leb}
 use Rattle.atlite.specs.Base.{member, all}
 use Rattle.atlite.specs.Term.{made, ref, top}
 use Rattle.atlite.specs.Valid.{isName}
-use Rattle.layout.specs.Numbers.{payload, nameLimit, tagLimit, numberLimit, ownerUnit, slotUnit, exprAt, exprSize, messageSize, queueSize, inboxAt, waitingAt, slotSize, madeSize, copiedSize, madeAt, copiedAt, bodiesSize, bodiesAt, restSize}
+use Rattle.layout.specs.Numbers.{payload, nameLimit, tagLimit, numberLimit, ownerUnit, digitLimit, digitsLimit, slotUnit, exprAt, exprSize, messageSize, queueSize, inboxAt, waitingAt, slotSize, slotBody, madeSize, copiedSize, madeAt, copiedAt, bodiesSize, bodiesAt, restSize}
 use Rattle.layout.specs.Reading.{namesIn}
 use Rattle.layout.specs.Arity.{nodesIn}
 use Rattle.layout.specs.Parse.{valueAt, valuesAt, zerosAt}
@@ -36,7 +36,7 @@ endIf t b = cond t b 4096
 
 -- a slot of neither fields nor methods
 unfoldable pub plainAt : List ℕ → ℕ → Bool
-plainAt w at = eqb (getD w at 0 / 8 % 64) 0 && eqb (getD w (at + 1) 0) 0
+plainAt w at = eqb (getD w at 0 / digitLimit % digitsLimit) 0 && eqb (getD w (at + 1) 0) 0
 
 unfoldable pub openAt : List ℕ → ℕ → Bool
 openAt w at = plainAt w at && zerosAt w 6 (at + 2)
@@ -72,18 +72,18 @@ module _ (K : List ℕ) (a W : ℕ) (w : List ℕ) where
 
   unfoldable pub arrivalsAt : ℕ → ℕ → Bool
   arrivalsAt zero at = true
-  arrivalsAt (suc c) at = arrivedAt at && arrivalsAt c (at + 6)
+  arrivalsAt (suc c) at = arrivedAt at && arrivalsAt c (at + messageSize)
 
   -- a message that waits at one of m entities, an open future from the number `lo` on
   unfoldable pub waitsAt : ℕ → ℕ → ℕ → Bool
   waitsAt m lo at =
       let x = getD w (at + 1) 0 in
       let n = x % numberLimit in
-      eqb (x / numberLimit) (768 + 2 * a) && leb lo n && ltb n m && eqb (getD w (madeAt + slotSize * n) 0 % 8) 3 && sentAt at
+      eqb (x / numberLimit) (768 + 2 * a) && leb lo n && ltb n m && eqb (getD w (madeAt + slotSize * n) 0 % digitLimit) 3 && sentAt at
 
   unfoldable pub waitersAt : ℕ → ℕ → ℕ → ℕ → Bool
   waitersAt m zero lo at = true
-  waitersAt m (suc c) lo at = waitsAt m lo at && waitersAt m c (getD w (at + 1) 0 % numberLimit) (at + 6)
+  waitersAt m (suc c) lo at = waitsAt m lo at && waitersAt m c (getD w (at + 1) 0 % numberLimit) (at + messageSize)
 
   -- ---- slots
   -- f fields of the slot at `at`
@@ -96,7 +96,7 @@ module _ (K : List ℕ) (a W : ℕ) (w : List ℕ) where
 
   -- an object or an isolate whose methods begin at b and end at e
   unfoldable pub objectEnd : ℕ → ℕ → ℕ → ℕ
-  objectEnd at b e = cond (fieldsAt (getD w at 0 / 8 % 8) at && eqb (getD w (at + 7) 0) 0 && eqb (b + getD w (at + 6) 0) e) e 4096
+  objectEnd at b e = cond (fieldsAt (getD w at 0 / digitLimit % digitLimit) at && eqb (getD w (at + 7) 0) 0 && eqb (b + getD w (at + slotBody) 0) e) e 4096
 
   -- the n-th slot, at `at`, of series m and of series c; f and g tell where the methods of an object and of an isolate end
   module _ (f g : ℕ → ℕ → ℕ) where
@@ -111,16 +111,16 @@ module _ (K : List ℕ) (a W : ℕ) (w : List ℕ) where
         ∷ []
 
     unfoldable pub madeEnd : ℕ → ℕ → ℕ → ℕ
-    madeEnd n at b = cond (eqb (getD w at 0 / slotUnit) n) (getD (slotForms (getD w at 0 / 64 % 8) at b) (getD w at 0 % 8) 4096) 4096
+    madeEnd n at b = cond (eqb (getD w at 0 / slotUnit) n) (getD (slotForms (getD w at 0 / digitsLimit % digitLimit) at b) (getD w at 0 % digitLimit) 4096) 4096
 
     unfoldable pub copiedEnd : ℕ → ℕ → ℕ → ℕ
     copiedEnd n at b =
-        cond (eqb (getD w at 0 / slotUnit) n && eqb (getD w at 0 % 8) 2) (objectEnd at b (g (getD w at 0 / 64 % 8) b)) 4096
+        cond (eqb (getD w at 0 / slotUnit) n && eqb (getD w at 0 % digitLimit) 2) (objectEnd at b (g (getD w at 0 / digitsLimit % digitLimit) b)) 4096
 
 -- k slots from the n-th on, each judged by f
 unfoldable pub slotsEnd : (ℕ → ℕ → ℕ → ℕ) → ℕ → ℕ → ℕ → ℕ → ℕ
 slotsEnd f zero n at b = b
-slotsEnd f (suc k) n at b = cond (leb (f n at b) bodiesSize) (slotsEnd f k (suc n) (at + 8) (f n at b)) 4096
+slotsEnd f (suc k) n at b = cond (leb (f n at b) bodiesSize) (slotsEnd f k (suc n) (at + slotSize) (f n at b)) 4096
 
 -- ---- the regions of a part
 -- each with zeros behind what it holds

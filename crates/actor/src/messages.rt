@@ -2,18 +2,21 @@
 ghost use mathlib.Core.Path.{_≡_};
 ghost use Prim.Native.Nat.{_+_, _*_, _≤_, _<_};
 ghost use lib.ListN.{length};
-ghost use Rattle.layout.specs.Numbers.{slotSize, madeAt};
+ghost use Rattle.layout.specs.Numbers.{messageSize, slotSize, madeAt};
 ghost use Rattle.actor.specs.Tests.{sentAt, arrivedAt, arrivalsAt, waitsAt, waitersAt};
 use crate::values;
+use layout::DIGIT;
 use layout::MADE;
+use layout::MESSAGE;
 use layout::NAME_LIMIT;
 use layout::NUMBER_LIMIT;
 use layout::OWNER_UNIT;
 use layout::PAYLOAD;
+use layout::SLOT;
 
 // Whether the message at `at` may be sent, whoever receives it.
 fn sent(w: &[u32], at: usize, a: u32, words: u32, kinds: &[u8; 192]) -> bool
-    requires { ⌜ (at + 6 ≤ length (now w)) × (words ≤ 64) ⌝ }
+    requires { ⌜ (at + messageSize ≤ length (now w)) × (words ≤ 64) ⌝ }
     ensures { λ r. ⌜ r ≡ sentAt (now (kinds .entry)) a words (now (w .entry)) at ⌝ }
 {
     let x = w[at];
@@ -35,7 +38,7 @@ fn sent(w: &[u32], at: usize, a: u32, words: u32, kinds: &[u8; 192]) -> bool
 
 // Whether the message at `at` may stand in the inbox of the actor `a`.
 fn arrived(w: &[u32], at: usize, a: u32, words: u32, kinds: &[u8; 192]) -> bool
-    requires { ⌜ (at + 6 ≤ length (now w)) × (words ≤ 64) × (a < 4) ⌝ }
+    requires { ⌜ (at + messageSize ≤ length (now w)) × (words ≤ 64) × (a < 4) ⌝ }
     ensures { λ r. ⌜ r ≡ arrivedAt (now (kinds .entry)) a words (now (w .entry)) at ⌝ }
 {
     let x = w[at + 1];
@@ -50,21 +53,21 @@ fn arrived(w: &[u32], at: usize, a: u32, words: u32, kinds: &[u8; 192]) -> bool
 
 // The same of `n` messages.
 pub fn inbox(w: &[u32], at: usize, n: usize, a: u32, words: u32, kinds: &[u8; 192]) -> bool
-    requires { ⌜ (at + 6 * n ≤ length (now w)) × (words ≤ 64) × (a < 4) ⌝ }
+    requires { ⌜ (at + messageSize * n ≤ length (now w)) × (words ≤ 64) × (a < 4) ⌝ }
     ensures { λ r. ⌜ r ≡ arrivalsAt (now (kinds .entry)) a words (now (w .entry)) n at ⌝ }
 {
     if n == 0 {
         return true;
     }
     if arrived(w, at, a, words, kinds) {
-        return inbox(w, at + 6, n - 1, a, words, kinds);
+        return inbox(w, at + MESSAGE, n - 1, a, words, kinds);
     }
     false
 }
 
 // Whether the message at `at` waits at an open future of the actor `a`, from the number `low` on, of `m` entities.
 fn waits(w: &[u32], at: usize, m: usize, low: usize, a: u32, words: u32, kinds: &[u8; 192]) -> bool
-    requires { ⌜ (at + 6 ≤ length (now w)) × (words ≤ 64) × (a < 4) × (madeAt + slotSize * m ≤ length (now w)) ⌝ }
+    requires { ⌜ (at + messageSize ≤ length (now w)) × (words ≤ 64) × (a < 4) × (madeAt + slotSize * m ≤ length (now w)) ⌝ }
     ensures { λ r. ⌜ r ≡ waitsAt (now (kinds .entry)) a words (now (w .entry)) m low at ⌝ }
 {
     let x = w[at + 1];
@@ -78,7 +81,7 @@ fn waits(w: &[u32], at: usize, m: usize, low: usize, a: u32, words: u32, kinds: 
     if m <= n {
         return false;
     }
-    if w[MADE + 8 * n] % 8 != 3 {
+    if w[MADE + SLOT * n] % DIGIT != 3 {
         return false;
     }
     sent(w, at, a, words, kinds)
@@ -95,7 +98,7 @@ pub fn waiting(
     words: u32,
     kinds: &[u8; 192],
 ) -> bool
-    requires { ⌜ (at + 6 * n ≤ length (now w)) × (words ≤ 64) × (a < 4) × (madeAt + slotSize * m ≤ length (now w)) ⌝ }
+    requires { ⌜ (at + messageSize * n ≤ length (now w)) × (words ≤ 64) × (a < 4) × (madeAt + slotSize * m ≤ length (now w)) ⌝ }
     ensures { λ r. ⌜ r ≡ waitersAt (now (kinds .entry)) a words (now (w .entry)) m n low at ⌝ }
 {
     if n == 0 {
@@ -103,7 +106,7 @@ pub fn waiting(
     }
     if waits(w, at, m, low, a, words, kinds) {
         let next = (w[at + 1] % NUMBER_LIMIT) as usize;
-        return waiting(w, at + 6, n - 1, m, next, a, words, kinds);
+        return waiting(w, at + MESSAGE, n - 1, m, next, a, words, kinds);
     }
     false
 }

@@ -20,9 +20,11 @@ use layout::EXPR_SIZE;
 use layout::INBOX;
 use layout::MADE;
 use layout::MADE_SIZE;
+use layout::MESSAGE;
 use layout::MOST;
 use layout::QUEUE_SIZE;
 use layout::REST;
+use layout::SLOT;
 use layout::WAITING;
 
 // How many words an expression may have, and how many stand behind the slots of the copies.
@@ -88,7 +90,7 @@ fn inbox(part: &[u32], a: u32, words: u32, kinds: &[u8; 192]) -> bool
 {
     let n = part[3] as usize;
     if messages::inbox(part, INBOX, n, a, words, kinds) {
-        return values::zeros(part, INBOX + 6 * n, QUEUE_SIZE - 6 * n);
+        return values::zeros(part, INBOX + MESSAGE * n, QUEUE_SIZE - MESSAGE * n);
     }
     false
 }
@@ -101,7 +103,7 @@ fn waiting(part: &[u32], a: u32, words: u32, kinds: &[u8; 192]) -> bool
     let n = part[4] as usize;
     let m = part[1] as usize;
     if messages::waiting(part, WAITING, n, m, 0, a, words, kinds) {
-        return values::zeros(part, WAITING + 6 * n, QUEUE_SIZE - 6 * n);
+        return values::zeros(part, WAITING + MESSAGE * n, QUEUE_SIZE - MESSAGE * n);
     }
     false
 }
@@ -115,7 +117,7 @@ fn end(part: &[u32], d: usize) -> bool
         return false;
     }
     let c = part[2] as usize;
-    if values::zeros(part, COPIED + 8 * c, COPIED_SIZE - 8 * c) {
+    if values::zeros(part, COPIED + SLOT * c, COPIED_SIZE - SLOT * c) {
         if 768 < terms::nodes(&part[BODIES..REST], 0, d) {
             return false;
         }
@@ -136,7 +138,7 @@ fn heap(part: &[u32], a: u32, words: u32, kinds: &[u8; 192]) -> bool
     if BODIES_SIZE < e {
         return false;
     }
-    if values::zeros(part, MADE + 8 * m, MADE_SIZE - 8 * m) {
+    if values::zeros(part, MADE + SLOT * m, MADE_SIZE - SLOT * m) {
         let d = slots::copied(part, COPIED, 0, c, bodies, e, a, words, kinds);
         return end(part, d);
     }

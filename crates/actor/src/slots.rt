@@ -6,7 +6,7 @@ ghost use Prim.Native.Nat.{_+_, _*_, _/_, _%_, _≤_, _<_};
 ghost use lib.Dec.{eqb};
 ghost use lib.ListN.{length, getD};
 ghost use Rattle.atlite.specs.Term.{made as seriesM, ref};
-ghost use Rattle.layout.specs.Numbers.{bodiesSize};
+ghost use Rattle.layout.specs.Numbers.{digitLimit, digitsLimit, slotSize, bodiesSize};
 ghost use Rattle.layout.specs.Parse.{valueAt};
 ghost use Rattle.wellformed.specs.Kinds.{futureBy};
 ghost use Rattle.wellformed.specs.Words.{within};
@@ -14,7 +14,11 @@ ghost use Rattle.actor.specs.Tests.{fieldsAt, objectEnd, endIf, plainAt,
 ghost use Rattle.actor.specs.Bodies.{methodsReach};
 use crate::values;
 use layout::BODIES_SIZE;
+use layout::DIGIT;
+use layout::DIGITS;
 use layout::PAYLOAD;
+use layout::SLOT;
+use layout::SLOT_BODY;
 use layout::SLOT_UNIT;
 
 // The answer where no entity is.
@@ -54,7 +58,7 @@ fn own_future(n: u32, a: u32, kinds: &[u8; 192]) -> bool
 
 // The `n` fields of the slot at `at`.
 fn fields(w: &[u32], at: usize, n: usize, a: u32, words: u32, kinds: &[u8; 192]) -> bool
-    requires { ⌜ (at + 8 ≤ length (now w)) × (words ≤ 64) ⌝ }
+    requires { ⌜ (at + slotSize ≤ length (now w)) × (words ≤ 64) ⌝ }
     ensures { λ r. ⌜ r ≡ fieldsAt (now (kinds .entry)) a words (now (w .entry)) n at ⌝ }
 {
     if 5 <= n {
@@ -87,15 +91,23 @@ fn object(
     words: u32,
     kinds: &[u8; 192],
 ) -> usize
-    requires { ⌜ (at + 8 ≤ length (now w)) × (words ≤ 64) × (length (now bodies) ≤ bodiesSize) × (b ≤ bodiesSize) ⌝ }
-    ensures { λ r. ⌜ r ≡ objectEnd (now (kinds .entry)) a words (now (w .entry)) at b (methodsReach refs (now (kinds .entry)) a words (now (bodies .entry)) (getD (now (w .entry)) at 0 / 64 % 8) b) ⌝ }
+    requires { ⌜ (at + slotSize ≤ length (now w)) × (words ≤ 64) × (length (now bodies) ≤ bodiesSize) × (b ≤ bodiesSize) ⌝ }
+    ensures { λ r. ⌜ r ≡ objectEnd (now (kinds .entry)) a words (now (w .entry)) at b (methodsReach refs (now (kinds .entry)) a words (now (bodies .entry)) (getD (now (w .entry)) at 0 / digitsLimit % digitLimit) b) ⌝ }
 {
-    let e = wellformed::methods(bodies, b, (w[at] / 64 % 8) as usize, kinds, a, words, refs);
-    if fields(w, at, (w[at] / 8 % 8) as usize, a, words, kinds) {
+    let e = wellformed::methods(
+        bodies,
+        b,
+        (w[at] / DIGITS % DIGIT) as usize,
+        kinds,
+        a,
+        words,
+        refs,
+    );
+    if fields(w, at, (w[at] / DIGIT % DIGIT) as usize, a, words, kinds) {
         if w[at + 7] != 0 {
             return FAIL;
         }
-        let size = wide(w[at + 6]);
+        let size = wide(w[at + SLOT_BODY]);
         if b + size == e {
             return e;
         }
@@ -106,10 +118,10 @@ fn object(
 
 // Neither fields nor methods.
 fn plain(w: &[u32], at: usize) -> bool
-    requires { ⌜ at + 8 ≤ length (now w) ⌝ }
+    requires { ⌜ at + slotSize ≤ length (now w) ⌝ }
     ensures { λ r. ⌜ r ≡ plainAt (now (w .entry)) at ⌝ }
 {
-    if w[at] / 8 % 64 != 0 {
+    if w[at] / DIGIT % DIGITS != 0 {
         return false;
     }
     w[at + 1] == 0
@@ -117,7 +129,7 @@ fn plain(w: &[u32], at: usize) -> bool
 
 // An open future.
 fn open(w: &[u32], at: usize) -> bool
-    requires { ⌜ at + 8 ≤ length (now w) ⌝ }
+    requires { ⌜ at + slotSize ≤ length (now w) ⌝ }
     ensures { λ r. ⌜ r ≡ openAt (now (w .entry)) at ⌝ }
 {
     if plain(w, at) {
@@ -128,7 +140,7 @@ fn open(w: &[u32], at: usize) -> bool
 
 // A future with its value, which is no future.
 fn settled(w: &[u32], at: usize, a: u32, kinds: &[u8; 192]) -> bool
-    requires { ⌜ at + 8 ≤ length (now w) ⌝ }
+    requires { ⌜ at + slotSize ≤ length (now w) ⌝ }
     ensures { λ r. ⌜ r ≡ settledAt (now (kinds .entry)) a (now (w .entry)) at ⌝ }
 {
     if plain(w, at) {
@@ -145,7 +157,7 @@ fn settled(w: &[u32], at: usize, a: u32, kinds: &[u8; 192]) -> bool
 
 // A resolver of a future of this actor.
 fn resolver(w: &[u32], at: usize, a: u32, kinds: &[u8; 192]) -> bool
-    requires { ⌜ (at + 8 ≤ length (now w)) × (a < 4) ⌝ }
+    requires { ⌜ (at + slotSize ≤ length (now w)) × (a < 4) ⌝ }
     ensures { λ r. ⌜ r ≡ resolverAt (now (kinds .entry)) a (now (w .entry)) at ⌝ }
 {
     if plain(w, at) {
@@ -178,13 +190,13 @@ fn made_slot(
     words: u32,
     kinds: &[u8; 192],
 ) -> usize
-    requires { ⌜ (at + 8 ≤ length (now w)) × (words ≤ 64) × (a < 4) × (length (now bodies) ≤ bodiesSize) × (b ≤ bodiesSize) ⌝ }
+    requires { ⌜ (at + slotSize ≤ length (now w)) × (words ≤ 64) × (a < 4) × (length (now bodies) ≤ bodiesSize) × (b ≤ bodiesSize) ⌝ }
     ensures { λ r. ⌜ r ≡ madeEnd (now (kinds .entry)) a words (now (w .entry)) (methodsReach true (now (kinds .entry)) a words (now (bodies .entry))) (methodsReach false (now (kinds .entry)) a words (now (bodies .entry))) n at b ⌝ }
 {
     if w[at] / SLOT_UNIT != n {
         return FAIL;
     }
-    match w[at] % 8 {
+    match w[at] % DIGIT {
         1 => object(w, at, bodies, b, true, a, words, kinds),
         2 => object(w, at, bodies, b, false, a, words, kinds),
         3 => end_if(open(w, at), b),
@@ -205,13 +217,13 @@ fn copied_slot(
     words: u32,
     kinds: &[u8; 192],
 ) -> usize
-    requires { ⌜ (at + 8 ≤ length (now w)) × (words ≤ 64) × (a < 4) × (length (now bodies) ≤ bodiesSize) × (b ≤ bodiesSize) ⌝ }
+    requires { ⌜ (at + slotSize ≤ length (now w)) × (words ≤ 64) × (a < 4) × (length (now bodies) ≤ bodiesSize) × (b ≤ bodiesSize) ⌝ }
     ensures { λ r. ⌜ r ≡ copiedEnd (now (kinds .entry)) a words (now (w .entry)) (methodsReach true (now (kinds .entry)) a words (now (bodies .entry))) (methodsReach false (now (kinds .entry)) a words (now (bodies .entry))) n at b ⌝ }
 {
     if w[at] / SLOT_UNIT != n {
         return FAIL;
     }
-    if w[at] % 8 != 2 {
+    if w[at] % DIGIT != 2 {
         return FAIL;
     }
     object(w, at, bodies, b, false, a, words, kinds)
@@ -229,7 +241,7 @@ pub fn made(
     words: u32,
     kinds: &[u8; 192],
 ) -> usize
-    requires { ⌜ (at + 8 * k ≤ length (now w)) × (n + k ≤ 32) × (words ≤ 64) × (a < 4) × (length (now bodies) ≤ bodiesSize) × (b ≤ bodiesSize) ⌝ }
+    requires { ⌜ (at + slotSize * k ≤ length (now w)) × (n + k ≤ 32) × (words ≤ 64) × (a < 4) × (length (now bodies) ≤ bodiesSize) × (b ≤ bodiesSize) ⌝ }
     ensures { λ r. ⌜ r ≡ slotsEnd (madeEnd (now (kinds .entry)) a words (now (w .entry)) (methodsReach true (now (kinds .entry)) a words (now (bodies .entry))) (methodsReach false (now (kinds .entry)) a words (now (bodies .entry)))) k n at b ⌝ }
 {
     let mut i = at;
@@ -241,7 +253,7 @@ pub fn made(
         if BODIES_SIZE < e {
             return FAIL;
         }
-        i += 8;
+        i += SLOT;
         m += 1;
         left -= 1;
     }
@@ -260,7 +272,7 @@ pub fn copied(
     words: u32,
     kinds: &[u8; 192],
 ) -> usize
-    requires { ⌜ (at + 8 * k ≤ length (now w)) × (n + k ≤ 32) × (words ≤ 64) × (a < 4) × (length (now bodies) ≤ bodiesSize) × (b ≤ bodiesSize) ⌝ }
+    requires { ⌜ (at + slotSize * k ≤ length (now w)) × (n + k ≤ 32) × (words ≤ 64) × (a < 4) × (length (now bodies) ≤ bodiesSize) × (b ≤ bodiesSize) ⌝ }
     ensures { λ r. ⌜ r ≡ slotsEnd (copiedEnd (now (kinds .entry)) a words (now (w .entry)) (methodsReach true (now (kinds .entry)) a words (now (bodies .entry))) (methodsReach false (now (kinds .entry)) a words (now (bodies .entry)))) k n at b ⌝ }
 {
     let mut i = at;
@@ -272,7 +284,7 @@ pub fn copied(
         if BODIES_SIZE < e {
             return FAIL;
         }
-        i += 8;
+        i += SLOT;
         m += 1;
         left -= 1;
     }

@@ -8,7 +8,7 @@ use lib.ListN.{length, length-append}
 use Rattle.atlite.specs.Term.{made, copied, Value, null, num, ref, Name, Op, Term, val, var, op, letIn, future, literal, Terms, nil, cons, Inits, noField, Methods, noMethod, method, countTerms, shape}
 use Rattle.atlite.specs.State.{Message, message, field, Entity, object, resolver, Actor, State, fieldNames, fieldValues}
 use Rattle.atlite.specs.Valid.{IsState}
-use Rattle.layout.specs.Numbers.{payload, nameLimit, numberLimit, exprAt, exprSize, queueSize, madeSize, copiedSize, bodiesSize, restSize, headSize, partsSize, tailSize}
+use Rattle.layout.specs.Numbers.{payload, nameLimit, numberLimit, digitLimit, exprAt, exprSize, queueSize, madeSize, copiedSize, bodiesSize, restSize, headSize, partsSize, tailSize}
 use Rattle.layout.specs.Pack.{node, zeros, pad, flat}
 use Rattle.layout.specs.PackLaws.{Each, each-map, NameFits, names-small, places-small}
 use Rattle.layout.specs.Terms.{countInits, countMethods, encodeValue, asked, opKind, opPayload, kindNumber, fieldHeader, methodHeader, encodeTerm, encodeTerms, encodeInits, encodeMethods}
@@ -81,7 +81,7 @@ mutual
   term-small (literal k fs ms) h =
       let i = h .0 in
       let j = h .1 in
-      (node-small (kindNumber k) (countInits fs + 8 * countMethods ms) (omega (arith, kind-small k)) (omega arith), both (encodeInits fs) (encodeMethods ms) (inits-small fs (h .2)) (methods-small ms (h .3)))
+      (node-small (kindNumber k) (countInits fs + digitLimit * countMethods ms) (omega (arith, kind-small k)) (omega arith), both (encodeInits fs) (encodeMethods ms) (inits-small fs (h .2)) (methods-small ms (h .3)))
 
   terms-small : (es : Terms) → FitsAll es → Small (encodeTerms es)
   terms-small nil h = tt

@@ -11,7 +11,7 @@ use Rattle.atlite.specs.Base.{sameBytes, if_then_else_}
 use Rattle.atlite.specs.Term.{Value, null, num, ref, Term}
 use Rattle.atlite.specs.State.{Message, message, Field, field, Tag, O, I, Entity, object, future, resolver, Actor, State}
 use Rattle.atlite.specs.ValidTest.{isState}
-use Rattle.layout.specs.Numbers.{payload, nameLimit, tagLimit, exprAt, exprSize, messageSize, inboxAt, waitingAt, madeAt, copiedAt, bodiesSize, bodiesAt, partSize, headSize}
+use Rattle.layout.specs.Numbers.{payload, nameLimit, tagLimit, digitLimit, exprAt, exprSize, messageSize, inboxAt, waitingAt, slotSize, madeAt, copiedAt, bodiesSize, bodiesAt, partSize, headSize}
 use Rattle.layout.specs.Reading.{cut, namesIn, Item}
 use Rattle.layout.specs.TermReading.{nameIn, methodsIn, termStack, termAt, decodeValue}
 use Rattle.layout.specs.Layout.{encode}
@@ -50,11 +50,11 @@ others n [] = []
 others n (m ∷ q) = if eqb (aim m) n then others n q else m ∷ q
 
 unfoldable pub slotMethods : List ℕ → ℕ
-slotMethods w = getD w 0 0 / 8 / 8 % 8
+slotMethods w = getD w 0 0 / digitLimit / digitLimit % digitLimit
 
 abbrev pub objectIn : Tag → List ℕ → List (Item Term) → Entity
 objectIn t w s =
-    object t (fieldsIn (namesIn (getD w 0 0 / 8 % 8) (getD w 1 0)) (valuesIn (getD w 0 0 / 8 % 8) (drop 2 w))) (methodsIn (slotMethods w) s)
+    object t (fieldsIn (namesIn (getD w 0 0 / digitLimit % digitLimit) (getD w 1 0)) (valuesIn (getD w 0 0 / digitLimit % digitLimit) (drop 2 w))) (methodsIn (slotMethods w) s)
 
 abbrev pub entityForms : ℕ → List ℕ → List (Item Term) → List Message → List Entity
 entityForms n w s q =
@@ -62,16 +62,16 @@ entityForms n w s q =
 
 -- the n-th slot, with the methods that are left and the messages that are left
 unfoldable pub entityIn : ℕ → List ℕ → List (Item Term) → List Message → Entity
-entityIn n w s q = getD (entityForms n w s q) (getD w 0 0 % 8) (resolver 0)
+entityIn n w s q = getD (entityForms n w s q) (getD w 0 0 % digitLimit) (resolver 0)
 
 unfoldable pub entitiesIn : ℕ → ℕ → List ℕ → List (Item Term) → List Message → List Entity
 entitiesIn zero n w s q = []
-entitiesIn (suc k) n w s q = entityIn n (take 8 w) s q ∷ entitiesIn k (suc n) (drop 8 w) (drop (slotMethods (take 8 w)) s) (others n q)
+entitiesIn (suc k) n w s q = entityIn n (take slotSize w) s q ∷ entitiesIn k (suc n) (drop slotSize w) (drop (slotMethods (take slotSize w)) s) (others n q)
 
 -- the methods that k slots leave
 unfoldable pub methodsPast : ℕ → List ℕ → List (Item Term) → List (Item Term)
 methodsPast zero w s = s
-methodsPast (suc k) w s = methodsPast k (drop 8 w) (drop (slotMethods (take 8 w)) s)
+methodsPast (suc k) w s = methodsPast k (drop slotSize w) (drop (slotMethods (take slotSize w)) s)
 
 unfoldable pub decodeActor : List ℕ → Actor
 decodeActor w = record {

@@ -15,7 +15,7 @@ use Rattle.atlite.specs.Facts.{and₂}
 use Rattle.atlite.specs.Lexicon.{Bytes}
 use Rattle.atlite.specs.Keywords.{Keywords, opWord, nullWord, thisWord, defWord, fieldWord, methodWord, Operator, naming, fn, when, operators, spelling}
 use Rattle.atlite.specs.Term.{this, Name, Op, plus, percent, get, set, call, send, written, demanded, Shape, exactly, shape, Kind}
-use Rattle.layout.specs.Numbers.{fieldKind, nameLimit, tagLimit}
+use Rattle.layout.specs.Numbers.{fieldKind, nameLimit, tagLimit, digitLimit}
 use Rattle.layout.specs.Terms.{opKind, kindNumber}
 use Rattle.layout.specs.Tables.{srcKind}
 
@@ -82,7 +82,7 @@ operandsOf letIn p = 2
 operandsOf future p = 1
 operandsOf calls p = suc (p / nameLimit / tagLimit)
 operandsOf sends p = suc (p / nameLimit / tagLimit)
-operandsOf (literal k) p = p % 8 + p / 8
+operandsOf (literal k) p = p % digitLimit + p / digitLimit
 
 -- how many of n operands become values before the word is a redex: of a let the bound part
 unfoldable pub demandOf : Form → ℕ → ℕ

@@ -11,7 +11,7 @@ use lib.ListN.{length, getD}
 use lib.Dec.{eqb, ltb, leb}
 use Rattle.atlite.specs.Term.{Value, null, num, Name, plain, twoWay, resolve, register, Op, call, send, written, Kind, Term, val, var, op, letIn, future, literal, Terms, nil, cons, Inits, noField, Methods, noMethod, method}
 use Rattle.atlite.specs.State.{Message, message}
-use Rattle.layout.specs.Numbers.{payload, fieldKind, nameLimit, noName, tagLimit, taggedLimit, secondPlace, thirdPlace}
+use Rattle.layout.specs.Numbers.{payload, fieldKind, methodUnit, nameLimit, noName, tagLimit, taggedLimit, secondPlace, thirdPlace, digitLimit, messageSize}
 use Rattle.layout.specs.Kinds.{Form, nothing, nullValue, number, reference, variable, bare, onField, calls, sends, formIn}
 use Rattle.layout.specs.TermReading.{refIn}
 
@@ -84,7 +84,7 @@ abbrev pub askIn : (Name → Op Name) → ℕ → Head
 askIn f p = only (ltb (p / nameLimit / tagLimit) 8) (askHead f (p / nameLimit / tagLimit) (nameOf (p / nameLimit % tagLimit) (p % nameLimit)))
 
 abbrev pub literalHead : Kind → ℕ → Head
-literalHead k p = only (ltb (p / 8) 8) (parts k (p % 8) (p / 8))
+literalHead k p = only (ltb (p / digitLimit) digitLimit) (parts k (p % digitLimit) (p / digitLimit))
 
 unfoldable pub headOf : Form → ℕ → Head
 headOf nothing p = noHead
@@ -130,7 +130,7 @@ named m (some xs) = some (m, xs)
 
 -- a method's name and its parameters
 unfoldable pub methodAt : ℕ → Option (ℕ × List ℕ)
-methodAt x = given (eqb (x / (64 * payload)) 3) (given (ltb (x % nameLimit) noName) (named (x % nameLimit) (paramsAt x)))
+methodAt x = given (eqb (x / methodUnit) 3) (given (ltb (x % nameLimit) noName) (named (x % nameLimit) (paramsAt x)))
 
 -- ---- terms, by a reader of the terms inside
 unfoldable pub termsBy : (ℕ → Got Term) → ℕ → ℕ → Got Terms
@@ -187,13 +187,13 @@ unfoldable pub parseMessage : List ℕ → ℕ → Got Message
 parseMessage w at =
     let x = getD w at 0 in
     let n = x % payload / nameLimit / tagLimit in
-    sure (leb (at + 6) (length w))
+    sure (leb (at + messageSize) (length w))
     (sure (eqb (x / payload) 14)
     (sure (ltb n 5)
     (sure (zerosAt w (4 - n) (at + 2 + n))
     (behind (nameOf (x % payload / nameLimit % tagLimit) (x % payload % nameLimit)) (λ m.
     behind (valueAt (getD w (at + 1) 0)) (λ v.
-    behind (valuesAt w n (at + 2)) (λ vs. got (message v m vs) (at + 6))))))))
+    behind (valuesAt w n (at + 2)) (λ vs. got (message v m vs) (at + messageSize))))))))
 
 unfoldable pub Parse : Unit {0}
 unfolding valueIn valueAt nameOf headOf headIn headAt fieldAt placesIn paramsAt methodAt termsBy initsBy methodsBy formed parseTerm valuesAt zerosAt parseMessage

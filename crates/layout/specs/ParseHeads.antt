@@ -11,7 +11,7 @@ use native.Mathlib.Omega.{arith}
 use borrow.Author.Tests.{ltb-true, eqb-true, lt-ltb}
 use lib.Dec.{eqb, ltb}
 use Rattle.atlite.specs.Term.{Value, null, num, ref, Name, Op, call, send, written, shape, sending, Kind, Term, val, var, op, letIn, future, literal, Terms, Inits, Methods, countTerms}
-use Rattle.layout.specs.Numbers.{payload, nameLimit, noName, tagLimit, taggedLimit, numberLimit}
+use Rattle.layout.specs.Numbers.{payload, nameLimit, noName, tagLimit, taggedLimit, numberLimit, digitLimit}
 use Rattle.layout.specs.Pack.{node}
 use Rattle.layout.specs.Terms.{countInits, countMethods, seriesBit, encodeValue, tagged, asked, arguments, opKind, opPayload, kindNumber, encodeTerm, encodeTerms, encodeInits, encodeMethods}
 use Rattle.layout.specs.Kinds.{Kinds, Bare, Fields, Form, nothing, nullValue, number, reference, variable, bare, onField, calls, sends, formKind, formIn, by-kind, form-none, Row, isBare, isField, isCall, isSend, row}
@@ -70,8 +70,8 @@ module _ (k : ℕ) (f : Name → Op Name) where
 
 reads-literal : (k : Kind) (p : ℕ) → Reads (node (kindNumber k) p) (literalHead k p)
 unfolding Fits encodeTerm
-reads-literal k p = reads-lt _ (p / 8) 8 (parts k (p % 8) (p / 8)) (λ l fs ms i j c d.
-    let q : countInits fs + 8 * countMethods ms ≡ p = omega arith in
+reads-literal k p = reads-lt _ (p / digitLimit) digitLimit (parts k (p % digitLimit) (p / digitLimit)) (λ l fs ms i j c d.
+    let q : countInits fs + digitLimit * countMethods ms ≡ p = omega arith in
     ((omega arith, omega arith, i, j), ap (λ n. node (kindNumber k) n ∷ (encodeInits fs ++ encodeMethods ms)) q))
 
 -- ---- by the table of kinds
@@ -162,14 +162,14 @@ pub head-op : (o : Op Name) (n : ℕ) → OpFits o n → headAt (node (opKind o)
 unfolding headAt
 head-op o n h = of-node headIn (opKind o) (opPayload o n) (label-small (shape o) n h) ∙ row-head o (row o) n h
 
-pub head-literal : (k : Kind) (n m : ℕ) → n < 8 → m < 8 → headAt (node (kindNumber k) (n + 8 * m)) ≡ parts k n m
+pub head-literal : (k : Kind) (n m : ℕ) → n < 8 → m < 8 → headAt (node (kindNumber k) (n + digitLimit * m)) ≡ parts k n m
 unfolding headAt Kinds headIn headOf
-head-literal k n m i j = of-node headIn (kindNumber k) (n + 8 * m) (omega arith) ∙ go k
+head-literal k n m i j = of-node headIn (kindNumber k) (n + digitLimit * m) (omega arith) ∙ go k
   where
-    literal-in : (k : Kind) → literalHead k (n + 8 * m) ≡ parts k n m
-    literal-in k = rw (pack-low 8 n m i, pack-high 8 n m i, lt-ltb m 8 j)
+    literal-in : (k : Kind) → literalHead k (n + digitLimit * m) ≡ parts k n m
+    literal-in k = rw (pack-low digitLimit n m i, pack-high digitLimit n m i, lt-ltb m 8 j)
 
-    go : (k : Kind) → headIn (kindNumber k) (n + 8 * m) ≡ parts k n m
+    go : (k : Kind) → headIn (kindNumber k) (n + digitLimit * m) ≡ parts k n m
     go Kind.object = literal-in Kind.object
     go Kind.isolate = literal-in Kind.isolate
     go Kind.actor = literal-in Kind.actor

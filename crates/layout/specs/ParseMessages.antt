@@ -12,7 +12,7 @@ use lib.Dec.{eqb, ltb, leb}
 use lib.ListN.{length, drop, getD, length-append, length-drop}
 use Rattle.atlite.specs.Term.{Value, Name}
 use Rattle.atlite.specs.State.{Message, message}
-use Rattle.layout.specs.Numbers.{payload, nameLimit, tagLimit, taggedLimit}
+use Rattle.layout.specs.Numbers.{payload, nameLimit, tagLimit, taggedLimit, messageSize}
 use Rattle.layout.specs.Pack.{node, zeros, pad}
 use Rattle.layout.specs.PackLaws.{pack-low, pack-high, pad-front, Each}
 use Rattle.layout.specs.Terms.{encodeValue, tagged, asked}
@@ -81,16 +81,16 @@ module _ (w : List ℕ) (at : ℕ) where
   count = getD w at 0 % payload / nameLimit / tagLimit
 
   four-spans : (x n : ℕ) (v : Value) (m : Name) (vs : List Value) → n < 5 → node 14 (asked m (length vs)) ≡ x → Spans w at (at + 1) (x ∷ []) → Spans w (at + 1) (at + 2) (encodeValue v ∷ [])
-      → ValuesAt w n (at + 2) vs → Spans w (at + 2 + n) (at + 2 + n + (4 - n)) (zeros (4 - n)) → Spans w at (at + 6) (encodeMessage (message v m vs))
+      → ValuesAt w n (at + 2) vs → Spans w (at + 2 + n) (at + 2 + n + (4 - n)) (zeros (4 - n)) → Spans w at (at + messageSize) (encodeMessage (message v m vs))
   unfolding encodeMessage pad
   four-spans x n v m vs l d s t u z =
       let c : 6 - suc (suc (length (valueWords vs))) ≡ 4 - n = omega (arith, length-values vs, u .1) in
       let a = span-join w at (at + 1) (at + 2) (x ∷ []) (encodeValue v ∷ []) s t in
       let b = span-join w at (at + 2) (at + 2 + n) (x ∷ encodeValue v ∷ []) (valueWords vs) a (u .2) in
-      rw (c, d) (span-end w at (at + 2 + n + (4 - n)) (at + 6) (x ∷ encodeValue v ∷ (valueWords vs ++ zeros (4 - n))) (span-join w at (at + 2 + n) (at + 2 + n + (4 - n)) (x ∷ encodeValue v ∷ valueWords vs) (zeros (4 - n)) b z) (omega arith))
+      rw (c, d) (span-end w at (at + 2 + n + (4 - n)) (at + messageSize) (x ∷ encodeValue v ∷ (valueWords vs ++ zeros (4 - n))) (span-join w at (at + 2 + n) (at + 2 + n + (4 - n)) (x ∷ encodeValue v ∷ valueWords vs) (zeros (4 - n)) b z) (omega arith))
 
-  stands : (v : Value) (m : Name) (vs : List Value) → at + 6 ≤ length w → getD w at 0 / payload ≡ 14 → count < 5 → zerosAt w (4 - count) (at + 2 + count) ≡ true
-      → NameWord (getD w at 0 % payload / nameLimit % tagLimit) (getD w at 0 % payload % nameLimit) m → ValueWord (getD w (at + 1) 0) v → ValuesAt w count (at + 2) vs → MessageAt w at (message v m vs) (at + 6)
+  stands : (v : Value) (m : Name) (vs : List Value) → at + messageSize ≤ length w → getD w at 0 / payload ≡ 14 → count < 5 → zerosAt w (4 - count) (at + 2 + count) ≡ true
+      → NameWord (getD w at 0 % payload / nameLimit % tagLimit) (getD w at 0 % payload % nameLimit) m → ValueWord (getD w (at + 1) 0) v → ValuesAt w count (at + 2) vs → MessageAt w at (message v m vs) (at + messageSize)
   stands v m vs l k c z i j u =
       let x = getD w at 0 in
       let n = count in
@@ -105,14 +105,14 @@ module _ (w : List ℕ) (at : ℕ) where
       let x = getD w at 0 in
       let p = x % payload in
       let n = count in
-      ended-sure (MessageAt w at) (leb (at + 6) (length w)) _ (λ l.
+      ended-sure (MessageAt w at) (leb (at + messageSize) (length w)) _ (λ l.
       ended-sure (MessageAt w at) (eqb (x / payload) 14) _ (λ k.
       ended-sure (MessageAt w at) (ltb n 5) _ (λ c.
       ended-sure (MessageAt w at) (zerosAt w (4 - n) (at + 2 + n)) _ (λ z.
       ended-behind (NameWord (p / nameLimit % tagLimit) (p % nameLimit)) (MessageAt w at) (nameOf (p / nameLimit % tagLimit) (p % nameLimit)) _ (name-word (p / nameLimit % tagLimit) (p % nameLimit)) (λ m i.
       ended-behind (ValueWord (getD w (at + 1) 0)) (MessageAt w at) (valueAt (getD w (at + 1) 0)) _ (value-word (getD w (at + 1) 0)) (λ v j.
-      ended-behind (ValuesAt w n (at + 2)) (MessageAt w at) (valuesAt w n (at + 2)) _ (values-at w n (at + 2) (omega (arith, leb-true (at + 6) (length w) l, ltb-true n 5 c))) (λ vs u.
-      stands v m vs (leb-true (at + 6) (length w) l) (eqb-true (x / payload) 14 k) (ltb-true n 5 c) z i j u)))))))
+      ended-behind (ValuesAt w n (at + 2)) (MessageAt w at) (valuesAt w n (at + 2)) _ (values-at w n (at + 2) (omega (arith, leb-true (at + messageSize) (length w) l, ltb-true n 5 c))) (λ vs u.
+      stands v m vs (leb-true (at + messageSize) (length w) l) (eqb-true (x / payload) 14 k) (ltb-true n 5 c) z i j u)))))))
 
 pub message-sound : (w : List ℕ) (at : ℕ) (m : Message) (i : ℕ) → parseMessage w at ≡ got m i → MessageAt w at m i
 message-sound w at m i = ended (MessageAt w at) (parseMessage w at) m i (message-ended w at)
@@ -130,7 +130,7 @@ zeros-read zero w at r e = refl
 zeros-read (suc c) w at r e =
     true-both (eqb (getD w at 0) 0) (zerosAt w c (at + 1)) (eq-eqb (getD w at 0) 0 (drop-first w at 0 (zeros c ++ r) e)) (zeros-read c w (at + 1) r (drop-next w at 0 (zeros c ++ r) e))
 
-pub message-complete : (m : Message) (w : List ℕ) (at : ℕ) (r : List ℕ) → MessageFits m → drop at w ≡ encodeMessage m ++ r → parseMessage w at ≡ got m (at + 6)
+pub message-complete : (m : Message) (w : List ℕ) (at : ℕ) (r : List ℕ) → MessageFits m → drop at w ≡ encodeMessage m ++ r → parseMessage w at ≡ got m (at + messageSize)
 unfolding parseMessage encodeMessage
 message-complete (message v m vs) w at r h e =
     let n = length vs in
@@ -144,9 +144,9 @@ message-complete (message v m vs) w at r h e =
     let d2 : drop (at + 2) w ≡ valueWords vs ++ z = drop-past w at (x ∷ encodeValue v ∷ []) _ d in
     let d3 : drop (at + 2 + n) w ≡ z = rw (length-values vs) at (drop-past w (at + 2) (valueWords vs) z d2) in
     let s = sym (length-drop at w) ∙ ap length e ∙ length-append (encodeMessage (message v m vs)) r in
-    let b : at + 6 ≤ length w = omega (arith, message-length (message v m vs) h, s) in
+    let b : at + messageSize ≤ length w = omega (arith, message-length (message v m vs) h, s) in
     rw (
-      le-leb (at + 6) (length w) b,
+      le-leb (at + messageSize) (length w) b,
       drop-first w at x _ d,
       drop-first w (at + 1) (encodeValue v) _ d1,
       pack-high payload (asked m n) 14 a,

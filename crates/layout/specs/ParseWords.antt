@@ -12,7 +12,7 @@ use borrow.Author.Tests.{ltb-true, eqb-true, lt-ltb}
 use lib.Dec.{eqb, ltb}
 use lib.ListN.{length, getD}
 use Rattle.atlite.specs.Term.{Value, null, num, ref, Name, plain, twoWay, resolve, register}
-use Rattle.layout.specs.Numbers.{payload, fieldKind, nameLimit, noName, tagLimit, taggedLimit, secondPlace, thirdPlace, placesLimit, numberLimit}
+use Rattle.layout.specs.Numbers.{payload, fieldKind, methodUnit, nameLimit, noName, tagLimit, taggedLimit, secondPlace, thirdPlace, placesLimit, numberLimit}
 use Rattle.layout.specs.Pack.{node, places}
 use Rattle.layout.specs.Terms.{seriesBit, encodeValue, tagged, asked, fieldHeader, methodHeader}
 use Rattle.layout.specs.TermReading.{seriesIn, refIn}
@@ -162,12 +162,12 @@ digits-sum x q r s t a b c d e h i j k l = omega arith
 digit : (x m n : ℕ) → x / m % n + n * (x / (m * n)) ≡ x / m
 digit x m n = ap (λ q. x / m % n + n * q) (sym (div-div-eq-div-mul x m n)) ∙ mod-add-div (x / m) n
 
-digits : (x : ℕ) → x / (64 * payload) ≡ 3 → x % nameLimit + nameLimit * (x / nameLimit % tagLimit + 4 * (x / taggedLimit % nameLimit + nameLimit * (x / secondPlace % nameLimit + nameLimit * (x / thirdPlace % nameLimit)) + placesLimit * 3)) ≡ x
+digits : (x : ℕ) → x / methodUnit ≡ 3 → x % nameLimit + nameLimit * (x / nameLimit % tagLimit + 4 * (x / taggedLimit % nameLimit + nameLimit * (x / secondPlace % nameLimit + nameLimit * (x / thirdPlace % nameLimit)) + placesLimit * 3)) ≡ x
 digits x h =
     digits-sum x (x / nameLimit) (x / taggedLimit) (x / numberLimit) (x / thirdPlace) (x % nameLimit) (x / nameLimit % tagLimit) (x / taggedLimit % nameLimit) (x / secondPlace % nameLimit) (x / thirdPlace % nameLimit)
     (mod-add-div x nameLimit) (digit x nameLimit 4) (digit x taggedLimit nameLimit) (digit x secondPlace nameLimit) (ap (λ q. x / thirdPlace % nameLimit + nameLimit * q) (sym h) ∙ digit x thirdPlace nameLimit)
 
-named-word : (x : ℕ) (o : Option (List ℕ)) → x / (64 * payload) ≡ 3 → x % nameLimit < noName → Holding (PlacesAre (x / nameLimit % tagLimit) (x / taggedLimit % nameLimit) (x / secondPlace % nameLimit) (x / thirdPlace % nameLimit)) o
+named-word : (x : ℕ) (o : Option (List ℕ)) → x / methodUnit ≡ 3 → x % nameLimit < noName → Holding (PlacesAre (x / nameLimit % tagLimit) (x / taggedLimit % nameLimit) (x / secondPlace % nameLimit) (x / thirdPlace % nameLimit)) o
     → Holding (λ h. MethodIs (h .0) (h .1) x) (named (x % nameLimit) o)
 unfolding methodHeader
 named-word x none e l g = tt
@@ -176,7 +176,7 @@ named-word x (some xs) e l g = (l, g .0, g .1, rw (g .2, g .3) (digits x e))
 pub method-word : (x : ℕ) → Holding (λ h. MethodIs (h .0) (h .1) x) (methodAt x)
 unfolding methodAt paramsAt
 method-word x =
-    under-eq _ (x / (64 * payload)) 3 _ (λ e. under-lt _ (x % nameLimit) noName (named (x % nameLimit) (paramsAt x)) (λ l.
+    under-eq _ (x / methodUnit) 3 _ (λ e. under-lt _ (x % nameLimit) noName (named (x % nameLimit) (paramsAt x)) (λ l.
     named-word x (paramsAt x) e l (places-word (x / nameLimit % tagLimit) (x / taggedLimit % nameLimit) (x / secondPlace % nameLimit) (x / thirdPlace % nameLimit))))
 
 -- the next quotient
@@ -215,7 +215,7 @@ unfolding methodAt methodHeader
 method-read m xs h g l =
     let w = m + nameLimit * (length xs + 4 * (places xs + placesLimit * 3)) in
     let s = places-small xs l g in
-    let a : w / (64 * payload) ≡ 3 = omega arith in
+    let a : w / methodUnit ≡ 3 = omega arith in
     let b : w % nameLimit ≡ m = omega (arith, h) in
     let c : paramsAt w ≡ some xs = params-read m xs h g l in
     rw (a, b, c, lt-ltb m noName h)

@@ -6,7 +6,7 @@ use mathlib.Core.List.{List, [], _∷_, _++_, append-assoc}
 use native.Mathlib.Omega.{arith}
 use borrow.Author.Tests.{lt-ltb, le-ltb}
 use lib.ListN.{length, drop}
-use Rattle.layout.specs.Numbers.{payload, fieldKind, header, nameLimit, placesLimit}
+use Rattle.layout.specs.Numbers.{payload, fieldKind, header, methodUnit, nameLimit, placesLimit}
 use Rattle.layout.specs.Pack.{node, zeros, places}
 use Rattle.layout.specs.Terms.{fieldHeader, methodHeader}
 use Rattle.layout.specs.Reading.{Item, alone, aField, aDefinition, aMethod, first, push, stack}
@@ -34,9 +34,9 @@ module _ {E : Type 0} (none : E) (form : ℕ → ℕ → List (Item E) → List 
       let w = x + payload * 130 in
       let b : header ≤ w = omega arith in
       let c : (130 * payload) ≤ w = omega arith in
-      let d : w < (192 * payload) = omega (arith, h) in
+      let d : w < (3 * methodUnit) = omega (arith, h) in
       let e : w - 130 * payload ≡ x = omega arith in
-      rw (le-ltb w header b, le-ltb w (130 * payload) c, lt-ltb w (192 * payload) d, e)
+      rw (le-ltb w header b, le-ltb w (130 * payload) c, lt-ltb w (3 * methodUnit) d, e)
 
   pub push-method : (m : ℕ) (xs : List ℕ) (s : List (Item E)) → NameFits m → Each NameFits xs → length xs ≤ 3 → push none form (methodHeader m xs) s ≡ aMethod m xs (first none s) ∷ drop 1 s
   unfolding push methodHeader
@@ -45,14 +45,14 @@ module _ {E : Type 0} (none : E) (form : ℕ → ℕ → List (Item E) → List 
       let q = length xs + 4 * places xs in
       let b : header ≤ w = omega arith in
       let c : (130 * payload) ≤ w = omega arith in
-      let d : (192 * payload) ≤ w = omega arith in
-      let e : w - 192 * payload ≡ m + nameLimit * q = omega arith in
+      let d : (3 * methodUnit) ≤ w = omega arith in
+      let e : w - 3 * methodUnit ≡ m + nameLimit * q = omega arith in
       let i : m < nameLimit = omega (arith, h) in
       let n : length xs < 4 = omega arith in
       rw (
         le-ltb w header b,
         le-ltb w (130 * payload) c,
-        le-ltb w (192 * payload) d,
+        le-ltb w (3 * methodUnit) d,
         e,
         pack-low nameLimit m q i,
         pack-high nameLimit m q i,

@@ -8,7 +8,7 @@ use mathlib.Core.Bool.{cond}
 use mathlib.Core.List.{List, [], _∷_}
 use lib.ListN.{take, drop}
 use lib.Dec.{ltb}
-use Rattle.layout.specs.Numbers.{payload, header, nameLimit, tagLimit}
+use Rattle.layout.specs.Numbers.{payload, header, methodUnit, nameLimit, tagLimit}
 
 -- n elements of s words each
 unfoldable pub cut : {A : Type 0} → (List ℕ → A) → ℕ → ℕ → List ℕ → List A
@@ -68,7 +68,7 @@ module _ {E : Type 0} (none : E) where
     push w s =
         cond (ltb w header) (form (w / payload) (w % payload) s)
         (cond (ltb w (130 * payload)) (aField (w - header) (first s) ∷ drop 1 s)
-        (cond (ltb w (192 * payload)) (aDefinition (w - 130 * payload) (first s) ∷ drop 1 s) (headed (w - 192 * payload) s)))
+        (cond (ltb w (3 * methodUnit)) (aDefinition (w - 130 * payload) (first s) ∷ drop 1 s) (headed (w - 3 * methodUnit) s)))
 
     unfoldable pub stack : List ℕ → List (Item E)
     stack [] = []

@@ -69,7 +69,7 @@ module _ (σ : State) (f : StateFits σ) where
   abbrev pub topWords : List ℕ
   topWords = length (σ .actors) ∷ length (σ .words) ∷ flat encodeWord (σ .words)
 
-  pub head-words : length topWords ≤ 256
+  pub head-words : length topWords ≤ headSize
   head-words = omega (arith, length-flat encodeWord 3 (σ .words) (words-three (σ .words)), f .wordCount)
 
   pub part-words : length (flat encodeActor (σ .actors)) ≤ partsSize

@@ -6,7 +6,7 @@ use lib.ListN.{length}
 use Rattle.atlite.specs.Valid.{isName}
 use Rattle.atlite.specs.Table.{countFields, countMethods, Grammatical, GrammaticalAll, GrammaticalFields, GrammaticalMethods, GrammaticalLines, IsTable, Table}
 use Rattle.atlite.specs.Script.{Src, num, null, var, op, letIn, future, fn, when, literal, Srcs, nil, cons, SrcFields, noField, field, SrcMethods, noMethod, method, Line, expression, define, countSrcs}
-use Rattle.layout.specs.Numbers.{nameLimit, linesAt, linesSize}
+use Rattle.layout.specs.Numbers.{nameLimit, digitLimit, linesAt, linesSize}
 use Rattle.layout.specs.Pack.{pad, flat}
 use Rattle.layout.specs.Terms.{kindNumber}
 use Rattle.layout.specs.Layout.{encodeWord}
@@ -32,7 +32,7 @@ mutual
   src-small (letIn x a b) w l h = (name-small 11 x (omega arith) (name-fits w l x (h .0)), both (encodeSrc a) (encodeSrc b) (src-small a w l (h .1)) (src-small b w l (h .2)))
   src-small (future x y e) w l h = (node-small 12 (x + nameLimit * y) (omega arith) (two-small w l x y (h .0) (h .1)), src-small e w l (h .2))
   src-small (literal k fs ms) w l h = (
-    node-small (kindNumber k) (countFields fs + 8 * countMethods ms) (omega (arith, kind-small k)) (omega (arith, h .0, h .2)),
+    node-small (kindNumber k) (countFields fs + digitLimit * countMethods ms) (omega (arith, kind-small k)) (omega (arith, h .0, h .2)),
     both (encodeFields fs) (encodeSrcMethods ms) (fields-small fs w l (h .1)) (methods-small ms w l (h .3)),
   )
   src-small (fn x e) w l h = (name-small 65 x (omega arith) (name-fits w l x (h .0)), src-small e w l (h .1))

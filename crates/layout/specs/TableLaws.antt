@@ -34,7 +34,7 @@ module _ (T : Table) (f : TableFits T) where
   abbrev topWords : List ℕ
   topWords = length (T .words) ∷ length (T .lines) ∷ length lineWordsOf ∷ flat encodeWord (T .words)
 
-  head-words : length topWords ≤ 256
+  head-words : length topWords ≤ linesAt
   head-words = omega (arith, length-flat encodeWord 3 (T .words) (words-three (T .words)), f .wordCount)
 
   encode-length : length (encodeTable T) ≡ tableWords

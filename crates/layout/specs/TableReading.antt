@@ -12,7 +12,7 @@ use Rattle.atlite.specs.Term.{call, send, Kind}
 use Rattle.atlite.specs.Keywords.{operators}
 use Rattle.atlite.specs.Table.{textOf, Table, read}
 use Rattle.atlite.specs.Script.{SrcOp, kept, ask, resolve, seq, Src, num, null, var, op, letIn, future, fn, when, literal, nil, cons, noField, field, noMethod, method, Line, expression, define}
-use Rattle.layout.specs.Numbers.{nameLimit, tagLimit, linesAt}
+use Rattle.layout.specs.Numbers.{nameLimit, tagLimit, digitLimit, linesAt}
 use Rattle.layout.specs.Kinds.{Form, nothing, nullValue, number, reference, variable, bare, onField, calls, sends, formIn}
 use Rattle.layout.specs.Reading.{cut, Item, alone, aField, aDefinition, aMethod, exprOf, fieldOf, methodOf, gather, first, stack}
 use Rattle.layout.specs.Decode.{decodeWord}
@@ -26,8 +26,8 @@ askedIn f p s = opIn (f (p % nameLimit)) (suc (p / nameLimit / tagLimit)) s
 
 abbrev pub literalIn : Kind → ℕ → List (Item Src) → List (Item Src)
 literalIn k p s =
-    alone (literal k (gather (fieldOf field) noField (p % 8) s) (gather (methodOf method) noMethod (p / 8) (drop (p % 8) s)))
-    ∷ drop (p / 8) (drop (p % 8) s)
+    alone (literal k (gather (fieldOf field) noField (p % digitLimit) s) (gather (methodOf method) noMethod (p / digitLimit) (drop (p % digitLimit) s)))
+    ∷ drop (p / digitLimit) (drop (p % digitLimit) s)
 
 abbrev pub twoIn : (Src → Src → Src) → List (Item Src) → List (Item Src)
 twoIn f s = alone (f (first null s) (first null (drop 1 s))) ∷ drop 2 s

@@ -12,7 +12,7 @@ use Rattle.atlite.specs.Term.{this, Kind, plain, Op, call, send, written, shape
 use Rattle.atlite.specs.Valid.{isName}
 use Rattle.atlite.specs.Table.{countFields, countMethods, Named, Grammatical, GrammaticalAll, GrammaticalFields, GrammaticalMethods, GrammaticalLines, writable}
 use Rattle.atlite.specs.Script.{SrcOp, kept, ask, resolve, seq, Src, num, null, var, op, letIn, future, fn, when, literal, Srcs, nil, cons, SrcFields, noField, field, SrcMethods, noMethod, method, Line, expression, define, countSrcs}
-use Rattle.layout.specs.Numbers.{payload, fieldKind, nameLimit}
+use Rattle.layout.specs.Numbers.{payload, fieldKind, nameLimit, digitLimit}
 use Rattle.layout.specs.Pack.{node, zeros, flat}
 use Rattle.layout.specs.Terms.{tagged, asked, arguments, opKind, kindNumber, fieldHeader, methodHeader}
 use Rattle.layout.specs.Tables.{srcKind, srcPayload, encodeSrc, encodeSrcs, encodeFields, encodeSrcMethods, encodeLine}
@@ -145,12 +145,12 @@ module _ (w : ℕ) (l : w ≤ 64) where
   op-form seq es s h = op-in seq 2 es s (eqb-true (countSrcs es) 2 h)
 
 literal-in : (k : Kind) (fs : SrcFields) (ms : SrcMethods) (s : List (Item Src)) → countFields fs ≤ 4
-    → literalIn k (countFields fs + 8 * countMethods ms) (fieldItems fs ++ (methodItems ms ++ s)) ≡ alone (literal k fs ms) ∷ s
+    → literalIn k (countFields fs + digitLimit * countMethods ms) (fieldItems fs ++ (methodItems ms ++ s)) ≡ alone (literal k fs ms) ∷ s
 literal-in k fs ms s h =
-    let i : countFields fs < 8 = omega arith in
+    let i : countFields fs < digitLimit = omega arith in
     rw (
-      pack-low 8 (countFields fs) (countMethods ms) i,
-      pack-high 8 (countFields fs) (countMethods ms) i,
+      pack-low digitLimit (countFields fs) (countMethods ms) i,
+      pack-high digitLimit (countFields fs) (countMethods ms) i,
       fields-in fs (methodItems ms ++ s),
       fields-past fs (methodItems ms ++ s),
       methods-in ms s,
@@ -158,7 +158,7 @@ literal-in k fs ms s h =
     )
 
 literal-form : (k : Kind) (fs : SrcFields) (ms : SrcMethods) (s : List (Item Src)) → countFields fs ≤ 4
-    → srcForm (kindNumber k) (countFields fs + 8 * countMethods ms) (fieldItems fs ++ (methodItems ms ++ s)) ≡ alone (literal k fs ms) ∷ s
+    → srcForm (kindNumber k) (countFields fs + digitLimit * countMethods ms) (fieldItems fs ++ (methodItems ms ++ s)) ≡ alone (literal k fs ms) ∷ s
 unfolding Kinds srcForm onSrcs
 literal-form Kind.object fs ms s h = literal-in Kind.object fs ms s h
 literal-form Kind.isolate fs ms s h = literal-in Kind.isolate fs ms s h
@@ -184,7 +184,7 @@ mutual
   read-src (future x y e) w r l h =
       stack-list null srcForm 12 (x + nameLimit * y) (omega arith) (two-small w l x y (h .0) (h .1)) (encodeSrc e) r (alone e ∷ []) _ (read-src e w r l (h .2)) (future-form x y e (srcStack r) (name-fits w l x (h .0)))
   read-src (literal k fs ms) w r l h =
-      stack-lists null srcForm (kindNumber k) (countFields fs + 8 * countMethods ms) (kind-small k) (omega (arith, h .0, h .2)) (encodeFields fs) (encodeSrcMethods ms) r (fieldItems fs) (methodItems ms) _
+      stack-lists null srcForm (kindNumber k) (countFields fs + digitLimit * countMethods ms) (kind-small k) (omega (arith, h .0, h .2)) (encodeFields fs) (encodeSrcMethods ms) r (fieldItems fs) (methodItems ms) _
       (read-fields fs w (encodeSrcMethods ms ++ r) l (h .1)) (read-methods ms w r l (h .3)) (literal-form k fs ms (srcStack r) (h .0))
   read-src (fn x e) w r l h = stack-list null srcForm 65 x (omega arith) (named-small w l x (h .0)) (encodeSrc e) r (alone e ∷ []) _ (read-src e w r l (h .1)) refl
   read-src (when a x b) w r l h =

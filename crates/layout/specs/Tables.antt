@@ -8,7 +8,7 @@ use lib.ListN.{length}
 use Rattle.atlite.specs.Term.{plain, written}
 use Rattle.atlite.specs.Table.{countFields, countMethods, Table}
 use Rattle.atlite.specs.Script.{SrcOp, kept, ask, resolve, seq, Src, num, null, var, op, letIn, future, fn, when, literal, Srcs, nil, cons, SrcFields, noField, field, SrcMethods, noMethod, method, Line, expression, define, countSrcs}
-use Rattle.layout.specs.Numbers.{nameLimit, linesAt, linesSize}
+use Rattle.layout.specs.Numbers.{nameLimit, digitLimit, linesAt, linesSize}
 use Rattle.layout.specs.Pack.{node, pad, flat}
 use Rattle.layout.specs.Terms.{variable, asked, arguments, opKind, opPayload, kindNumber, fieldHeader, methodHeader}
 use Rattle.layout.specs.Layout.{encodeWord}
@@ -33,7 +33,7 @@ unfoldable mutual
   encodeSrc (op o es) = node (srcKind o) (srcPayload o (countSrcs es)) ∷ encodeSrcs es
   encodeSrc (letIn x e d) = node 11 x ∷ (encodeSrc e ++ encodeSrc d)
   encodeSrc (future x y e) = node 12 (x + nameLimit * y) ∷ encodeSrc e
-  encodeSrc (literal k fs ms) = node (kindNumber k) (countFields fs + 8 * countMethods ms) ∷ (encodeFields fs ++ encodeSrcMethods ms)
+  encodeSrc (literal k fs ms) = node (kindNumber k) (countFields fs + digitLimit * countMethods ms) ∷ (encodeFields fs ++ encodeSrcMethods ms)
   encodeSrc (fn x e) = node 65 x ∷ encodeSrc e
   encodeSrc (when e x d) = node 67 x ∷ (encodeSrc e ++ encodeSrc d)
 

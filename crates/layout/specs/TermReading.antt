@@ -3,7 +3,7 @@ use Prim.Native.Nat.{ℕ, zero, suc, _/_, _%_}
 use mathlib.Core.List.{List, [], _∷_}
 use lib.ListN.{drop, getD}
 use Rattle.atlite.specs.Term.{Series, made, copied, Value, null, num, ref, Name, plain, twoWay, resolve, register, Op, call, send, written, Kind, Term, val, var, op, letIn, future, literal, Terms, nil, cons, Inits, noField, Methods, noMethod, method}
-use Rattle.layout.specs.Numbers.{payload, nameLimit, tagLimit, numberLimit}
+use Rattle.layout.specs.Numbers.{payload, nameLimit, tagLimit, numberLimit, digitLimit}
 use Rattle.layout.specs.Kinds.{Kinds, Form, nothing, nullValue, number, reference, variable, bare, onField, calls, sends, formIn}
 use Rattle.layout.specs.Reading.{Item, alone, exprOf, fieldOf, methodOf, gather, first, stack}
 
@@ -39,7 +39,7 @@ abbrev pub askedIn : (Name → Op Name) → ℕ → List (Item Term) → List (I
 askedIn f p s = opIn (f (nameIn (p / nameLimit % tagLimit) (p % nameLimit))) (suc (p / nameLimit / tagLimit)) s
 
 abbrev pub literalIn : Kind → ℕ → List (Item Term) → List (Item Term)
-literalIn k p s = alone (literal k (initsIn (p % 8) s) (methodsIn (p / 8) (drop (p % 8) s))) ∷ drop (p / 8) (drop (p % 8) s)
+literalIn k p s = alone (literal k (initsIn (p % digitLimit) s) (methodsIn (p / digitLimit) (drop (p % digitLimit) s))) ∷ drop (p / digitLimit) (drop (p % digitLimit) s)
 
 -- what the stack becomes, by the node's form
 unfoldable pub onTerms : Form → ℕ → List (Item Term) → List (Item Term)

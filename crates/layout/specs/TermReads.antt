@@ -6,7 +6,7 @@ use mathlib.Core.List.{List, [], _∷_, _++_}
 use native.Mathlib.Omega.{arith}
 use lib.ListN.{length, drop}
 use Rattle.atlite.specs.Term.{Series, made, copied, Value, null, num, ref, Name, plain, twoWay, resolve, register, Op, call, send, written, Shape, exactly, onField, calling, sending, shape, Kind, Term, val, var, op, letIn, future, literal, Terms, nil, cons, Inits, noField, Methods, noMethod, method, countTerms}
-use Rattle.layout.specs.Numbers.{payload, nameLimit, tagLimit, numberLimit}
+use Rattle.layout.specs.Numbers.{payload, nameLimit, tagLimit, numberLimit, digitLimit}
 use Rattle.layout.specs.Pack.{zeros, pad}
 use Rattle.layout.specs.Terms.{countInits, countMethods, seriesBit, encodeValue, tagged, asked, arguments, labelNumber, opKind, opPayload, kindNumber, fieldHeader, methodHeader, encodeTerm, encodeTerms, encodeInits, encodeMethods}
 use Rattle.layout.specs.Kinds.{Kinds, Row, isBare, isField, isCall, isSend, row, op-kind, kind-small}
@@ -154,20 +154,20 @@ op-form _ (isField c k n e x f w) es s h = rw (e .0 x .2, f, field-payload c k n
 op-form _ (isCall m) es s h = asked-form call m es s h
 op-form _ (isSend m) es s h = asked-form send m es s h
 
-literal-in : (k : Kind) (fs : Inits) (ms : Methods) (s : List (Item Term)) → countInits fs < 8
-    → literalIn k (countInits fs + 8 * countMethods ms) (initItems fs ++ (methodItems ms ++ s)) ≡ alone (literal k fs ms) ∷ s
+literal-in : (k : Kind) (fs : Inits) (ms : Methods) (s : List (Item Term)) → countInits fs < digitLimit
+    → literalIn k (countInits fs + digitLimit * countMethods ms) (initItems fs ++ (methodItems ms ++ s)) ≡ alone (literal k fs ms) ∷ s
 literal-in k fs ms s h =
     rw (
-      pack-low 8 (countInits fs) (countMethods ms) h,
-      pack-high 8 (countInits fs) (countMethods ms) h,
+      pack-low digitLimit (countInits fs) (countMethods ms) h,
+      pack-high digitLimit (countInits fs) (countMethods ms) h,
       inits-in fs (methodItems ms ++ s),
       inits-past fs (methodItems ms ++ s),
       methods-in ms s,
       methods-past ms s,
     )
 
-literal-form : (k : Kind) (fs : Inits) (ms : Methods) (s : List (Item Term)) → countInits fs < 8
-    → termForm (kindNumber k) (countInits fs + 8 * countMethods ms) (initItems fs ++ (methodItems ms ++ s)) ≡ alone (literal k fs ms) ∷ s
+literal-form : (k : Kind) (fs : Inits) (ms : Methods) (s : List (Item Term)) → countInits fs < digitLimit
+    → termForm (kindNumber k) (countInits fs + digitLimit * countMethods ms) (initItems fs ++ (methodItems ms ++ s)) ≡ alone (literal k fs ms) ∷ s
 unfolding Kinds onTerms termForm
 literal-form Kind.object fs ms s h = literal-in Kind.object fs ms s h
 literal-form Kind.isolate fs ms s h = literal-in Kind.isolate fs ms s h
@@ -192,7 +192,7 @@ mutual
   read-term (future x y e) r h =
       stack-list none termForm 12 (x + nameLimit * y) (omega arith) (omega (arith, h .0, h .1)) (encodeTerm e) r (alone e ∷ []) _ (read-term e r (h .2)) (future-form x y e (termStack r) (h .0))
   read-term (literal k fs ms) r h =
-      stack-lists none termForm (kindNumber k) (countInits fs + 8 * countMethods ms) (kind-small k) (omega (arith, h .0, h .1)) (encodeInits fs) (encodeMethods ms) r (initItems fs) (methodItems ms) _
+      stack-lists none termForm (kindNumber k) (countInits fs + digitLimit * countMethods ms) (kind-small k) (omega (arith, h .0, h .1)) (encodeInits fs) (encodeMethods ms) r (initItems fs) (methodItems ms) _
       (read-inits fs (encodeMethods ms ++ r) (h .2)) (read-methods ms r (h .3)) (literal-form k fs ms (termStack r) (h .0))
 
   pub read-terms : (es : Terms) (r : List ℕ) → FitsAll es → termStack (encodeTerms es ++ r) ≡ termItems es ++ termStack r

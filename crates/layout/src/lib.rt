@@ -9,6 +9,9 @@ pub const MOST: u32 = PAYLOAD - 1;
 
 pub const HEADER: u32 = 128 * PAYLOAD;
 
+// A method's header begins with the third of these.
+pub const METHOD_UNIT: u32 = 64 * PAYLOAD;
+
 // Words with the payload 0, by their kinds.
 pub const NULL: u32 = PAYLOAD;
 
@@ -52,9 +55,9 @@ pub const LET_S: u32 = LET + 5;
 pub const FUTURE_FR: u32 = FUTURE + 2 + 3 * NAME_LIMIT;
 
 // A function: an object with one method, `apply`, whose header has the parameter 0 here.
-pub const FUNCTION: u32 = 15 * PAYLOAD + 8;
+pub const FUNCTION: u32 = 15 * PAYLOAD + DIGIT;
 
-pub const APPLY_HEADER: u32 = 192 * PAYLOAD
+pub const APPLY_HEADER: u32 = 3 * METHOD_UNIT
     + 7
     + NAME_LIMIT
     + NO_NAME * SECOND_PLACE
@@ -95,8 +98,13 @@ pub const OWNER_UNIT: u32 = 2 * NUMBER_LIMIT;
 
 pub const OWNER_LIMIT: u32 = 128;
 
-// Where the number of a slot stands in its head.
-pub const SLOT_UNIT: u32 = 8 * 8 * 8;
+// The counts of fields and of methods, and the kind of an entity, are below the first; two of them are below the second.
+pub const DIGIT: u32 = 8;
+
+pub const DIGITS: u32 = DIGIT * DIGIT;
+
+// Where the number of a slot stands in its head, behind three of them.
+pub const SLOT_UNIT: u32 = DIGIT * DIGITS;
 
 // In an actor's part: the moves, the numbers of entities and messages, the words of the expression.
 pub const MOVES: usize = 0;
@@ -125,6 +133,9 @@ pub const INBOX: usize = EXPR + EXPR_SIZE;
 pub const WAITING: usize = INBOX + QUEUE_SIZE;
 
 pub const SLOT: usize = 8;
+
+// Where a slot has the words of its methods.
+pub const SLOT_BODY: usize = 6;
 
 pub const MADE_SIZE: usize = 32 * SLOT;
 

@@ -13,7 +13,7 @@ use Rattle.atlite.specs.Base.{bytes, all}
 use Rattle.atlite.specs.Facts.{and₂}
 use Rattle.atlite.specs.Lexicon.{Bytes}
 use Rattle.atlite.specs.Printer.{digits, printNumber}
-use Rattle.layout.specs.Numbers.{payload, header, nameLimit, noName, taggedLimit, secondPlace, thirdPlace, numberLimit, ownerUnit, ownerLimit, slotUnit, exprAt, inboxAt, waitingAt, madeAt, copiedAt, bodiesAt, partSize, headSize, stateWords}
+use Rattle.layout.specs.Numbers.{payload, header, nameLimit, noName, taggedLimit, secondPlace, thirdPlace, numberLimit, ownerUnit, ownerLimit, digitLimit, digitsLimit, slotUnit, exprAt, messageSize, inboxAt, waitingAt, slotSize, madeAt, copiedAt, bodiesAt, partSize, headSize, stateWords}
 use Rattle.layout.specs.Kinds.{Words, keywords, wordAt, wordIn as wordOf}
 use Rattle.showing.specs.Writer.{most}
 use Rattle.showing.specs.TextOfWords.{letterIn, lettersIn, knownIn, wordIn, taggedIn, nameIn, first, second, openIn, placesIn, paramsIn, after, count, operatorIn, headIn, seriesIn, ownerIn, refIn, leafIn, Text, operandsIn, formIn, shown}
@@ -172,7 +172,7 @@ module _ (t : List ℕ) where
   unfolding messageIn bytes
   message-bound w f =
       let x = getD w 0 0 % slotUnit in
-      let n = 1 + getD w 0 0 / taggedLimit % 8 in
+      let n = 1 + getD w 0 0 / taggedLimit % digitLimit in
       let a = operandsIn t (shown t 1) x n (drop 1 w) in
       omega (arith, length-append (a .text) (41 ∷ []), operands-bound (shown t 1) (shown-bound 1) x n (drop 1 w), name-bound t x, dropped 1 w f)
 
@@ -180,15 +180,15 @@ module _ (t : List ℕ) where
   unfolding waitingIn
   waiting-bound zero n w f = (omega arith, f)
   waiting-bound (suc k) n w f =
-      let b = waitingIn t k n (drop 6 w) in
-      let i = waiting-bound k n (drop 6 w) (dropped 6 w f) in
+      let b = waitingIn t k n (drop messageSize w) in
+      let i = waiting-bound k n (drop messageSize w) (dropped messageSize w f) in
       pick (suc k * 2097271) (waits n w) _ _ (omega (arith, i .0, length-append (messageIn t w) (b .text), message-bound w f), i .1) (omega arith, f)
 
   inbox-bound : (n : ℕ) (w : List ℕ) → Few w → length (inboxIn t n w) ≤ n * 2097271
   unfolding inboxIn
   inbox-bound zero w f = omega arith
   inbox-bound (suc n) w f =
-      omega (arith, length-append (messageIn t w) (10 ∷ inboxIn t n (drop 6 w)), message-bound w f, inbox-bound n (drop 6 w) (dropped 6 w f))
+      omega (arith, length-append (messageIn t w) (10 ∷ inboxIn t n (drop messageSize w)), message-bound w f, inbox-bound n (drop messageSize w) (dropped messageSize w f))
 
   fields-bound : (n x : ℕ) (w : List ℕ) → Few w → length (fieldsIn t n x w) ≤ n * 2097271
   unfolding fieldsIn
@@ -213,10 +213,10 @@ module _ (t : List ℕ) where
   opening-bound : (a s h v : ℕ) → length (openingIn t a s h v) ≤ 55
   unfolding openingIn entryIn
   opening-bound a s h v =
-      let k = kindIn (h % 8) in
+      let k = kindIn (h % digitLimit) in
       let n = printNumber (h / slotUnit) in
-      let u = stateIn t (h % 8) v in
-      omega (arith, length-append (k ++ printNumber a) (seriesIn s ++ (n ++ u)), length-append k (printNumber a), length-append (seriesIn s) (n ++ u), length-append n u, kind-bound (h % 8), number-bound a, series-bound s, number-bound (h / slotUnit), state-bound (h % 8) v)
+      let u = stateIn t (h % digitLimit) v in
+      omega (arith, length-append (k ++ printNumber a) (seriesIn s ++ (n ++ u)), length-append k (printNumber a), length-append (seriesIn s) (n ++ u), length-append n u, kind-bound (h % digitLimit), number-bound a, series-bound s, number-bound (h / slotUnit), state-bound (h % digitLimit) v)
 
   abbrev Good : ℕ → Entry → Type 0
   Good n x = (length (x .text) ≤ n) × Few (x .bodies) × Few (x .waiting)
@@ -224,12 +224,12 @@ module _ (t : List ℕ) where
   parts-bound : (h x : ℕ) (w b q : List ℕ) → Few w → Few b → Few q → Good 52000000 (partsIn t h x w b q)
   unfolding partsIn nameIn
   parts-bound h x w b q f g i =
-      let m = operandsIn t (shown t deep) noName (h / 64 % 8) b in
+      let m = operandsIn t (shown t deep) noName (h / digitsLimit % digitLimit) b in
       let u = waitingIn t 16 (h / slotUnit) q in
-      let y = fieldsIn t (h / 8 % 8) x w in
-      let k = operands-bound (shown t deep) (shown-bound deep) noName (h / 64 % 8) b in
+      let y = fieldsIn t (h / digitLimit % digitLimit) x w in
+      let k = operands-bound (shown t deep) (shown-bound deep) noName (h / digitsLimit % digitLimit) b in
       let j = waiting-bound 16 (h / slotUnit) q i in
-      let l = fields-bound (h / 8 % 8) x w f in
+      let l = fields-bound (h / digitLimit % digitLimit) x w f in
       (omega (arith, k, j .0, l, length-append y (m .text ++ (u .text ++ (41 ∷ 10 ∷ []))), length-append (m .text) (u .text ++ (41 ∷ 10 ∷ [])), length-append (u .text) (41 ∷ 10 ∷ [])), omega (arith, k), j .1)
 
   slots-bound : (a s n : ℕ) (w b q : List ℕ) → Few w → Few b → Few q → Good (n * 52000055) (slotsIn t a s n w b q)
@@ -239,8 +239,8 @@ module _ (t : List ℕ) where
       let x = partsIn t (getD w 0 0) (getD w 1 0) (drop 2 w) b q in
       let k = parts-bound (getD w 0 0) (getD w 1 0) (drop 2 w) b q (dropped 2 w f) g i in
       let o = openingIn t a s (getD w 0 0) (getD w 2 0) in
-      let y = slotsIn t a s n (drop 8 w) (x .bodies) (x .waiting) in
-      let j = slots-bound a s n (drop 8 w) (x .bodies) (x .waiting) (dropped 8 w f) (k .1) (k .2) in
+      let y = slotsIn t a s n (drop slotSize w) (x .bodies) (x .waiting) in
+      let j = slots-bound a s n (drop slotSize w) (x .bodies) (x .waiting) (dropped slotSize w f) (k .1) (k .2) in
       (omega (arith, k .0, j .0, length-append (o ++ x .text) (y .text), length-append o (x .text), opening-bound a s (getD w 0 0) (getD w 2 0)), j .1, j .2)
 
   -- ---- actors
@@ -276,4 +276,4 @@ module _ (t : List ℕ) where
 
 pub listed-bound : (t : List ℕ) → length t ≤ stateWords → length (listedIn t) ≤ most
 unfolding listedIn
-listed-bound t f = omega (arith, actors-bound t 0 (getD t 0 0 % 5) (drop headSize t) (dropped t 256 t f))
+listed-bound t f = omega (arith, actors-bound t 0 (getD t 0 0 % 5) (drop headSize t) (dropped t headSize t f))

@@ -15,7 +15,7 @@ use Rattle.atlite.specs.Listing.{printSeries, printValue, printMethods, printFi
 use Rattle.atlite.specs.Term.{Series, made, copied, Value, Methods}
 use Rattle.atlite.specs.State.{Message, Field, Tag, O, I, Entity, object, future, resolver, fieldNames, fieldValues}
 use Rattle.reading.specs.Items.{behind, behind-append, form-closing}
-use Rattle.layout.specs.Numbers.{payload, noName, numberLimit, slotUnit, bodiesSize}
+use Rattle.layout.specs.Numbers.{payload, noName, numberLimit, digitLimit, digitsLimit, slotUnit, bodiesSize}
 use Rattle.layout.specs.Pack.{zeros, pad, flat, names}
 use Rattle.layout.specs.PackLaws.{pad-front, Each, each-map}
 use Rattle.layout.specs.Terms.{seriesBit, countMethods, encodeMethods}
@@ -34,15 +34,15 @@ use Rattle.lister.specs.Messages.{Quiet, later-waits, waiting-shown, fie
 
 -- ---- the head of a slot
 module _ (k f m n : ℕ) (h : k < 8) (i : f < 8) (j : m < 8) where
-  head-kind : slotHead k f m n % 8 ≡ k
+  head-kind : slotHead k f m n % digitLimit ≡ k
   unfolding slotHead
   head-kind = omega arith
 
-  head-fields : slotHead k f m n / 8 % 8 ≡ f
+  head-fields : slotHead k f m n / digitLimit % digitLimit ≡ f
   unfolding slotHead
   head-fields = omega arith
 
-  head-methods : slotHead k f m n / 64 % 8 ≡ m
+  head-methods : slotHead k f m n / digitsLimit % digitLimit ≡ m
   unfolding slotHead
   head-methods = omega arith
 
@@ -77,7 +77,7 @@ abbrev pub entry : Bytes → List ℕ → List ℕ → Entry
 entry s b q = record { text = s; bodies = b; waiting = q }
 
 module _ (t : List ℕ) (ws : List Bytes) (sp : Spells t ws) (a : ℕ) (s : Series) where
-  opening-text : (k n h v : ℕ) (key : Bytes) (si : List Bytes) (rest : Bytes) (items : List Bytes) → h % 8 ≡ k → h / slotUnit ≡ n
+  opening-text : (k n h v : ℕ) (key : Bytes) (si : List Bytes) (rest : Bytes) (items : List Bytes) → h % digitLimit ≡ k → h / slotUnit ≡ n
       → kindIn k ≡ 40 ∷ (key ++ (32 ∷ [])) → stateIn t k v ≡ behind si [] → behind si [] ++ rest ≡ behind items (41 ∷ 10 ∷ [])
       → openingIn t a (seriesBit s) h v ++ rest ≡ line (key ∷ printNumber a ∷ printSeries s ∷ printNumber n ∷ items)
   unfolding openingIn entryIn

@@ -11,7 +11,7 @@ use lib.ListN.{length, drop, getD, drop-of-length-le, List·getD-eq-default}
 use lib.Seq.{getD-drop, drop-drop}
 use Rattle.atlite.specs.Base.{bytes}
 use Rattle.atlite.specs.Printer.{printNumber}
-use Rattle.layout.specs.Numbers.{payload, header, nameLimit, noName, taggedLimit, numberLimit, slotUnit}
+use Rattle.layout.specs.Numbers.{payload, header, nameLimit, noName, taggedLimit, numberLimit, digitLimit, digitsLimit, slotUnit, messageSize, slotSize}
 use Rattle.showing.specs.Writer.{most, Wrote, wrote-none, wrote-two}
 use Rattle.showing.specs.TextOfWords.{seriesIn, leafIn, operandsIn, formIn, shown}
 use Rattle.lister.specs.TextOfState.{deep, messageIn, aimIn, waits, waitingIn, inboxIn, fieldsIn, kindIn, stateIn, entryIn, openingIn, partsIn, slotIn, slotsIn}
@@ -37,7 +37,7 @@ aim-none v e = rw (ne-eqb (v / payload) 3 e)
 
 module _ (t : List ℕ) (at : ℕ) (old : List ℕ) (o : ℕ) where
   pub message-whole : (m₁ m₂ new : List ℕ) (p i q r : ℕ) → Wrote old o (bytes "(message") m₁ p
-      → Showed t (operandsIn t (shown t 1) (getD t at 0 % slotUnit) (1 + getD t at 0 / taggedLimit % 8) (drop (at + 1) t)) m₁ p m₂ i q → Wrote m₂ q (41 ∷ []) new r
+      → Showed t (operandsIn t (shown t 1) (getD t at 0 % slotUnit) (1 + getD t at 0 / taggedLimit % digitLimit) (drop (at + 1) t)) m₁ p m₂ i q → Wrote m₂ q (41 ∷ []) new r
       → Wrote old o (messageIn t (drop at t)) new r
   unfolding messageIn
   message-whole m₁ m₂ new p i q r a b c = rw (here t at, drop-drop 1 at t) (wrote-two old o _ _ m₁ new p r a (wrote-two m₁ p _ _ m₂ new q r (b .text) c))
@@ -69,16 +69,16 @@ module _ (t : List ℕ) (at : ℕ) (old : List ℕ) (o : ℕ) where
     waiting-other v e g d h = stays (rw (here t at, getD-drop at t 1 0, ← g, eq-eqb (getD t at 0 / payload) 14 e, ne-eqb v n d)) h
 
     pub waiting-more : (m₁ m₂ new : List ℕ) (v a p i q : ℕ) → (k ≡ 0 → ⊥) → getD t at 0 / payload ≡ 14 → v ≡ aimIn (getD t (at + 1) 0) → v ≡ n
-        → Wrote old o (32 ∷ []) m₁ a → Wrote m₁ a (messageIn t (drop at t)) m₂ p → Showed t (waitingIn t (k - 1) n (drop (at + 6) t)) m₂ p new i q
+        → Wrote old o (32 ∷ []) m₁ a → Wrote m₁ a (messageIn t (drop at t)) m₂ p → Showed t (waitingIn t (k - 1) n (drop (at + messageSize) t)) m₂ p new i q
         → Showed t (waitingIn t k n (drop at t)) old o new i q
     unfolding waitingIn waits
     waiting-more m₁ m₂ new v a p i q f e g d w x y = more k f y
       where
-        more : (k : ℕ) → (k ≡ 0 → ⊥) → Showed t (waitingIn t (k - 1) n (drop (at + 6) t)) m₂ p new i q → Showed t (waitingIn t k n (drop at t)) old o new i q
+        more : (k : ℕ) → (k ≡ 0 → ⊥) → Showed t (waitingIn t (k - 1) n (drop (at + messageSize) t)) m₂ p new i q → Showed t (waitingIn t k n (drop at t)) old o new i q
         more zero f y = absurd (f refl)
         more (suc k) f y =
             let y′ = rw sub-one at y in
-            rw (here t at, getD-drop at t 1 0, ← g, eq-eqb (getD t at 0 / payload) 14 e, eq-eqb v n d, drop-drop 6 at t)
+            rw (here t at, getD-drop at t 1 0, ← g, eq-eqb (getD t at 0 / payload) 14 e, eq-eqb v n d, drop-drop messageSize at t)
             (record { text = wrote-two old o _ _ m₁ new a q w (wrote-two m₁ a _ _ m₂ new p q x (y′ .text)); rest = y′ .rest; small = y′ .small })
 
   module _ (n : ℕ) where
@@ -87,13 +87,13 @@ module _ (t : List ℕ) (at : ℕ) (old : List ℕ) (o : ℕ) where
     inbox-none e h = rw e (wrote-none old o h)
 
     pub inbox-more : (m₁ m₂ new : List ℕ) (p q r : ℕ) → (n ≡ 0 → ⊥) → Wrote old o (messageIn t (drop at t)) m₁ p → Wrote m₁ p (10 ∷ []) m₂ q
-        → Wrote m₂ q (inboxIn t (n - 1) (drop (at + 6) t)) new r → Wrote old o (inboxIn t n (drop at t)) new r
+        → Wrote m₂ q (inboxIn t (n - 1) (drop (at + messageSize) t)) new r → Wrote old o (inboxIn t n (drop at t)) new r
     unfolding inboxIn
     inbox-more m₁ m₂ new p q r f a b c = more n f c
       where
-        more : (n : ℕ) → (n ≡ 0 → ⊥) → Wrote m₂ q (inboxIn t (n - 1) (drop (at + 6) t)) new r → Wrote old o (inboxIn t n (drop at t)) new r
+        more : (n : ℕ) → (n ≡ 0 → ⊥) → Wrote m₂ q (inboxIn t (n - 1) (drop (at + messageSize) t)) new r → Wrote old o (inboxIn t n (drop at t)) new r
         more zero f c = absurd (f refl)
-        more (suc n) f c = rw (drop-drop 6 at t) (wrote-two old o _ _ m₁ new p r a (wrote-two m₁ p _ _ m₂ new q r b (rw sub-one at c)))
+        more (suc n) f c = rw (drop-drop messageSize at t) (wrote-two old o _ _ m₁ new p r a (wrote-two m₁ p _ _ m₂ new q r b (rw sub-one at c)))
 
     -- ---- slots
     module _ (x : ℕ) where
@@ -145,14 +145,14 @@ module _ (t old : List ℕ) (o k : ℕ) where
   pub end-whole : (mid new : List ℕ) (p r : ℕ) → Wrote old o (41 ∷ []) mid p → Wrote mid p (10 ∷ []) new r → Wrote old o (41 ∷ 10 ∷ []) new r
   end-whole mid new p r x y = wrote-two old o (41 ∷ []) (10 ∷ []) mid new p r x y
 
-  pub opening-whole : (a s v : ℕ) (m₁ m₂ m₃ new : List ℕ) (b c d r : ℕ) → Wrote old o (entryIn (k % 8) a) m₁ b → Wrote m₁ b (seriesIn s) m₂ c
-      → Wrote m₂ c (printNumber (k / slotUnit)) m₃ d → Wrote m₃ d (stateIn t (k % 8) v) new r → Wrote old o (openingIn t a s k v) new r
+  pub opening-whole : (a s v : ℕ) (m₁ m₂ m₃ new : List ℕ) (b c d r : ℕ) → Wrote old o (entryIn (k % digitLimit) a) m₁ b → Wrote m₁ b (seriesIn s) m₂ c
+      → Wrote m₂ c (printNumber (k / slotUnit)) m₃ d → Wrote m₃ d (stateIn t (k % digitLimit) v) new r → Wrote old o (openingIn t a s k v) new r
   unfolding openingIn
   opening-whole a s v m₁ m₂ m₃ new b c d r e f g i =
       wrote-two old o _ _ m₁ new b r e (wrote-two m₁ b _ _ m₂ new c r f (wrote-two m₂ c _ _ m₃ new d r g i))
 
-  pub parts-whole : (x at body wait : ℕ) (m₁ m₂ m₃ new : List ℕ) (a i b j c r : ℕ) → Wrote old o (fieldsIn t (k / 8 % 8) x (drop at t)) m₁ a
-      → Showed t (operandsIn t (shown t deep) noName (k / 64 % 8) (drop body t)) m₁ a m₂ i b
+  pub parts-whole : (x at body wait : ℕ) (m₁ m₂ m₃ new : List ℕ) (a i b j c r : ℕ) → Wrote old o (fieldsIn t (k / digitLimit % digitLimit) x (drop at t)) m₁ a
+      → Showed t (operandsIn t (shown t deep) noName (k / digitsLimit % digitLimit) (drop body t)) m₁ a m₂ i b
       → Showed t (waitingIn t 16 (k / slotUnit) (drop wait t)) m₂ b m₃ j c → Wrote m₃ c (41 ∷ 10 ∷ []) new r
       → Slotted t (partsIn t k x (drop at t) (drop body t) (drop wait t)) old o new i j r
   unfolding partsIn
@@ -181,18 +181,18 @@ module _ (t : List ℕ) (a s at body wait : ℕ) (old : List ℕ) (o : ℕ) wher
     slots-none e h = rw e (record { text = wrote-none old o h; bodies = refl; waiting = refl; small = h })
 
     pub slots-more : (mid new : List ℕ) (i j p k l r : ℕ) → (n ≡ 0 → ⊥) → Slotted t (slotIn t a s (drop at t) (drop body t) (drop wait t)) old o mid i j p
-        → Slotted t (slotsIn t a s (n - 1) (drop (at + 8) t) (drop i t) (drop j t)) mid p new k l r
+        → Slotted t (slotsIn t a s (n - 1) (drop (at + slotSize) t) (drop i t) (drop j t)) mid p new k l r
         → Slotted t (slotsIn t a s n (drop at t) (drop body t) (drop wait t)) old o new k l r
     unfolding slotsIn
     slots-more mid new i j p k l r f e g = more n f (rw (e .bodies, e .waiting) at g)
       where
         more : (n : ℕ) → (n ≡ 0 → ⊥)
-            → Slotted t (slotsIn t a s (n - 1) (drop (at + 8) t) (slotIn t a s (drop at t) (drop body t) (drop wait t) .bodies) (slotIn t a s (drop at t) (drop body t) (drop wait t) .waiting)) mid p new k l r
+            → Slotted t (slotsIn t a s (n - 1) (drop (at + slotSize) t) (slotIn t a s (drop at t) (drop body t) (drop wait t) .bodies) (slotIn t a s (drop at t) (drop body t) (drop wait t) .waiting)) mid p new k l r
             → Slotted t (slotsIn t a s n (drop at t) (drop body t) (drop wait t)) old o new k l r
         more zero f g = absurd (f refl)
         more (suc n) f g =
             let g′ = rw sub-one at g in
-            rw (drop-drop 8 at t) (record { text = wrote-two old o _ _ mid new p r (e .text) (g′ .text); bodies = g′ .bodies; waiting = g′ .waiting; small = g′ .small })
+            rw (drop-drop slotSize at t) (record { text = wrote-two old o _ _ mid new p r (e .text) (g′ .text); bodies = g′ .bodies; waiting = g′ .waiting; small = g′ .small })
 
 pub ruleset kinds = (needs, kind-at, kind-future)
 

@@ -10,7 +10,7 @@ use lib.Dec.{eqb}
 use Rattle.atlite.specs.Base.{bytes}
 use Rattle.atlite.specs.Lexicon.{Bytes}
 use Rattle.atlite.specs.Printer.{printNumber}
-use Rattle.layout.specs.Numbers.{payload, header, nameLimit, noName, taggedLimit, numberLimit, slotUnit, exprAt, inboxAt, waitingAt, madeAt, copiedAt, bodiesSize, bodiesAt, partSize, headSize}
+use Rattle.layout.specs.Numbers.{payload, header, nameLimit, noName, taggedLimit, numberLimit, digitLimit, digitsLimit, slotUnit, exprAt, messageSize, inboxAt, waitingAt, slotSize, madeAt, copiedAt, bodiesSize, bodiesAt, partSize, headSize}
 use Rattle.showing.specs.TextOfWords.{seriesIn, leafIn, Text, operandsIn, formIn, shown}
 
 -- no term has more words in one another than the bodies of an actor have words
@@ -20,7 +20,7 @@ deep = bodiesSize
 -- ---- messages
 -- the message that w begins with: its receiver, its name and its arguments stand as a send's operands do
 unfoldable pub messageIn : List ℕ → List ℕ → Bytes
-messageIn t w = bytes "(message" ++ (operandsIn t (shown t 1) (getD w 0 0 % slotUnit) (1 + getD w 0 0 / taggedLimit % 8) (drop 1 w) .text ++ (41 ∷ []))
+messageIn t w = bytes "(message" ++ (operandsIn t (shown t 1) (getD w 0 0 % slotUnit) (1 + getD w 0 0 / taggedLimit % digitLimit) (drop 1 w) .text ++ (41 ∷ []))
 
 -- the number in a reference
 unfoldable pub aimIn : ℕ → ℕ
@@ -34,12 +34,12 @@ waits n w = cond (eqb (getD w 0 0 / payload) 14) (eqb (aimIn (getD w 1 0)) n) fa
 unfoldable pub waitingIn : List ℕ → ℕ → ℕ → List ℕ → Text
 waitingIn t zero n w = record { text = []; rest = w }
 waitingIn t (suc k) n w =
-    let b = waitingIn t k n (drop 6 w) in
+    let b = waitingIn t k n (drop messageSize w) in
     cond (waits n w) (record { text = (32 ∷ []) ++ (messageIn t w ++ b .text); rest = b .rest }) (record { text = []; rest = w })
 
 unfoldable pub inboxIn : List ℕ → ℕ → List ℕ → Bytes
 inboxIn t zero w = []
-inboxIn t (suc n) w = messageIn t w ++ ((10 ∷ []) ++ inboxIn t n (drop 6 w))
+inboxIn t (suc n) w = messageIn t w ++ ((10 ∷ []) ++ inboxIn t n (drop messageSize w))
 
 -- ---- slots
 -- n fields, their names in x and their values in w
@@ -65,7 +65,7 @@ entryIn k a = kindIn k ++ printNumber a
 
 -- the opening of the slot of head h, with v in its first place, in series s of the actor a
 unfoldable pub openingIn : List ℕ → ℕ → ℕ → ℕ → ℕ → Bytes
-openingIn t a s h v = entryIn (h % 8) a ++ (seriesIn s ++ (printNumber (h / slotUnit) ++ stateIn t (h % 8) v))
+openingIn t a s h v = entryIn (h % digitLimit) a ++ (seriesIn s ++ (printNumber (h / slotUnit) ++ stateIn t (h % digitLimit) v))
 
 -- a text, and the words of the two regions that are left
 pub record Entry : Type 0 where
@@ -76,9 +76,9 @@ pub record Entry : Type 0 where
 -- behind the opening: fields with the names in x and the values in w, methods, messages, and the end
 unfoldable pub partsIn : List ℕ → ℕ → ℕ → List ℕ → List ℕ → List ℕ → Entry
 partsIn t h x w b q =
-    let m = operandsIn t (shown t deep) noName (h / 64 % 8) b in
+    let m = operandsIn t (shown t deep) noName (h / digitsLimit % digitLimit) b in
     let u = waitingIn t 16 (h / slotUnit) q in
-    record { text = fieldsIn t (h / 8 % 8) x w ++ (m .text ++ (u .text ++ (41 ∷ 10 ∷ []))); bodies = m .rest; waiting = u .rest }
+    record { text = fieldsIn t (h / digitLimit % digitLimit) x w ++ (m .text ++ (u .text ++ (41 ∷ 10 ∷ []))); bodies = m .rest; waiting = u .rest }
 
 unfoldable pub slotIn : List ℕ → ℕ → ℕ → List ℕ → List ℕ → List ℕ → Entry
 slotIn t a s w b q =
@@ -90,7 +90,7 @@ unfoldable pub slotsIn : List ℕ → ℕ → ℕ → ℕ → List ℕ → List 
 slotsIn t a s zero w b q = record { text = []; bodies = b; waiting = q }
 slotsIn t a s (suc n) w b q =
     let x = slotIn t a s w b q in
-    let y = slotsIn t a s n (drop 8 w) (x .bodies) (x .waiting) in
+    let y = slotsIn t a s n (drop slotSize w) (x .bodies) (x .waiting) in
     record { text = x .text ++ y .text; bodies = y .bodies; waiting = y .waiting }
 
 -- ---- actors

@@ -13,7 +13,7 @@ use Rattle.atlite.specs.Script.{SrcOp, kept, ask, resolve, Src, num, null, var,
 use Rattle.atlite.specs.Expansion.{asking, ofTwo}
 use Rattle.atlite.specs.Valid.{operable}
 use Rattle.atlite.specs.Table.{countFields, countMethods, Grammatical, GrammaticalAll, GrammaticalFields, GrammaticalMethods, writable}
-use Rattle.layout.specs.Numbers.{payload, nameLimit, taggedLimit}
+use Rattle.layout.specs.Numbers.{payload, nameLimit, taggedLimit, digitLimit}
 use Rattle.layout.specs.Pack.{node}
 use Rattle.reading.specs.Items.{send-few}
 use Rattle.layout.specs.Fitting.{name-fits, shape-fits}
@@ -109,7 +109,7 @@ module _ (s : Self) where
       (simp append-assoc)
 
   literal-words : (k : Kind) (fs : SrcFields) (ms : SrcMethods)
-      → node (kindNumber k) (countFields fs + 8 * countMethods ms) ∷ (encodeInits (expandFieldsWith fs) ++ encodeMethods (expandMethodsWith ms))
+      → node (kindNumber k) (countFields fs + digitLimit * countMethods ms) ∷ (encodeInits (expandFieldsWith fs) ++ encodeMethods (expandMethodsWith ms))
       ≡ encodeTerm (expandWith (literal k fs ms) s)
   unfolding expandWith encodeTerm
   literal-words k fs ms = rw (fields-count fs, methods-count ms)
@@ -214,7 +214,7 @@ module _ (w : ℕ) (l : w ≤ 64) where
     emit-src (literal k fs ms) n s g d =
         let a = countFields fs in
         let b = countMethods ms in
-        let h = node (kindNumber k) (a + 8 * b) in
+        let h = node (kindNumber k) (a + digitLimit * b) in
         let r = kind-range k in
         let p = g .0 in
         let q = g .2 in

@@ -12,7 +12,7 @@ use Rattle.atlite.specs.Script.{seq, Src, num, null, var, op, letIn, future, fn
 use Rattle.atlite.specs.Expansion.{ofTwo}
 use Rattle.atlite.specs.Table.{countFields, countMethods, Grammatical, GrammaticalLines}
 use Rattle.atlite.specs.Facts.{refused-done}
-use Rattle.layout.specs.Numbers.{payload, nameLimit, noName}
+use Rattle.layout.specs.Numbers.{payload, nameLimit, noName, digitLimit}
 use Rattle.layout.specs.Pack.{node, flat}
 use Rattle.layout.specs.Fitting.{name-fits}
 use Rattle.layout.specs.Kinds.{kind-small}
@@ -52,7 +52,7 @@ module _ (w : ℕ) (few : w ≤ 64) where
       let p = g .0 in
       let q = g .2 in
       let r = kind-small k in
-      leads (node (kindNumber k) (countFields fs + 8 * countMethods ms)) _ (omega arith)
+      leads (node (kindNumber k) (countFields fs + digitLimit * countMethods ms)) _ (omega arith)
 
   -- ---- one line
   line-one : (e : Src) → Grammatical w e → nesting e ≤ 32 → One 33 nullWord (encodeSrc e) (encodeTerm (expandWith e outside))

@@ -13,6 +13,7 @@ use Rattle.atlite.specs.Table.{countFields, countMethods}
 use Rattle.atlite.specs.Reader.{Reading, spelled, item, eat, readWord, spaced, spacedWord, readItems, readFields, readMethods, readForm, readExpr}
 use Rattle.atlite.specs.Keywords.{operators}
 use Rattle.words.specs.Wide.{wide, pair, wideSrc, wideSrcs, wideFields, wideMethods}
+use Rattle.layout.specs.Numbers.{digitLimit}
 use Rattle.parse.specs.Headers.{readHeader}
 use Rattle.parse.specs.Operators.{operatorOf}
 use Rattle.parse.specs.declared.scratch.Step.{Step}
@@ -179,7 +180,7 @@ unfoldable pub literals : Bytes → ℕ → Reading (SrcFields × SrcMethods)
 literals t n i = readLiteral (dictionary t) (readExpr operators n (dictionary t)) i
 
 unfoldable pub literalWords : ℕ → SrcFields × SrcMethods → List ℕ
-literalWords k v = wide k (countFields (v .0) + 8 * countMethods (v .1)) ∷ (wideFields (v .0) ++ wideMethods (v .1))
+literalWords k v = wide k (countFields (v .0) + digitLimit * countMethods (v .1)) ∷ (wideFields (v .0) ++ wideMethods (v .1))
 
 -- a field or a method behind its opening, and those after it
 unfoldable pub fieldAt : ℕ → Bytes → ℕ → Reading SrcFields
@@ -231,7 +232,7 @@ pub record EndRead (k c : ℕ) (t : Bytes) (at p : ℕ) (old : List ℕ) (o : �
   pub is : R ≡ done (value, drop i t)
   pub far : at < i
   pub within : i ≤ length t
-  pub wrote : new ≡ set (sets old p (wideMethods value)) o (wide k (c + 8 * countMethods value))
+  pub wrote : new ≡ set (sets old p (wideMethods value)) o (wide k (c + digitLimit * countMethods value))
   pub ends : q ≡ p + length (wideMethods value)
   pub short : q + at + 1 ≤ p + i
 

@@ -12,7 +12,7 @@ use Rattle.atlite.specs.Script.{Src, SrcFields, SrcMethods}
 use Rattle.atlite.specs.Table.{countFields, countMethods}
 use Rattle.atlite.specs.Keywords.{operators}
 use Rattle.atlite.specs.Reader.{Reading, readWord, readFields, readMethods, readExpr}
-use Rattle.layout.specs.Numbers.{fieldKind}
+use Rattle.layout.specs.Numbers.{fieldKind, digitLimit}
 use Rattle.words.specs.Wide.{wide, wideSrc, wideFields, wideMethods}
 use Rattle.scan.specs.Runs.{Starts}
 use Rattle.parse.specs.declared.names.Name.{Name}
@@ -197,7 +197,7 @@ module _ (t : Bytes) (at p o k c : ℕ) (old m₁ new : List ℕ) (b : Listed) (
   abbrev Methods : ℕ → ℕ → ℕ → ℕ → Type 0
   Methods n j q d = ListRead wideMethods countMethods 4 0 t at p old m₁ (readMethods (dictionary t) (readExpr operators n (dictionary t)) 4 (drop at t)) j q d
 
-  ended-core : (n j q d w : ℕ) (r : Step) → Methods n j q d → w ≡ wide k (c + 8 * d) → Closed t j m₁ o w q new r
+  ended-core : (n j q d w : ℕ) (r : Step) → Methods n j q d → w ≡ wide k (c + digitLimit * d) → Closed t j m₁ o w q new r
       → TookEnd k c t at p old o new (readRest (dictionary t) (readExpr operators n (dictionary t)) (drop at t)) r
   unfolding TookEnd Closed readRest
   ended-core n j q d w (Done i l) x h z =
@@ -207,7 +207,7 @@ module _ (t : Bytes) (at p o k c : ℕ) (old m₁ new : List ℕ) (b : Listed) (
       let num = x .counted in
       let g = z .next in
       let e = z .ends in
-      let whole : w ≡ wide k (c + 8 * countMethods (x .value)) = omega arith in
+      let whole : w ≡ wide k (c + digitLimit * countMethods (x .value)) = omega arith in
       record {
         value = x .value;
         is = rw (x .is) (rw (z .is));
@@ -219,7 +219,7 @@ module _ (t : Bytes) (at p o k c : ℕ) (old m₁ new : List ℕ) (b : Listed) (
       }
   ended-core n j q d w Bad x h z = rw (x .is) (rw z)
 
-  pub ended-done : (j q d w : ℕ) (r : Step) → b ≡ Items j q d → w ≡ wide k (c + 8 * d) → Closed t j m₁ o w q new r → Ended k c t at p old o new r
+  pub ended-done : (j q d w : ℕ) (r : Step) → b ≡ Items j q d → w ≡ wide k (c + digitLimit * d) → Closed t j m₁ o w q new r → Ended k c t at p old o new r
   unfolding Ended Lists TookList methodsFrom
   ended-done j q d w r e h z n l = ended-core n j q d w r (rw e at (s n l)) h z
 
@@ -251,8 +251,8 @@ module _ (t : Bytes) (at o : ℕ) (old m₁ new : List ℕ) (k : ℕ) (a : Liste
       let a₁ = x .ends in
       let a₂ = y .ends in
       let n₁ = x .counted in
-      let w = wide k (countFields (x .value) + 8 * countMethods (y .value)) in
-      let whole : wide k (c + 8 * countMethods (y .value)) ≡ w = omega arith in
+      let w = wide k (countFields (x .value) + digitLimit * countMethods (y .value)) in
+      let whole : wide k (c + digitLimit * countMethods (y .value)) ≡ w = omega arith in
       let both : sets m₁ p (wideMethods (y .value)) ≡ sets old (o + 1) (wideFields (x .value) ++ wideMethods (y .value)) =
       rw (x .wrote, a₁) (sets-append (wideFields (x .value)) (wideMethods (y .value)) old (o + 1)) in
       record {

@@ -13,7 +13,7 @@ use Rattle.atlite.specs.Keywords.{printKind, letWord, futureWord, fnWord, whenW
 use Rattle.atlite.specs.Listing.{printSeries, printValue}
 use Rattle.atlite.specs.Term.{made, copied, Value, null, num, ref, Name, plain, twoWay, resolve, register, Kind}
 use Rattle.reading.specs.Items.{behind, form-closing}
-use Rattle.layout.specs.Numbers.{payload, fieldKind, nameLimit, noName, tagLimit, taggedLimit, pairLimit, placesLimit, numberLimit, ownerUnit, ownerLimit, exprSize}
+use Rattle.layout.specs.Numbers.{payload, fieldKind, nameLimit, noName, tagLimit, taggedLimit, pairLimit, placesLimit, numberLimit, ownerUnit, ownerLimit, digitLimit, exprSize}
 use Rattle.layout.specs.Pack.{node, places}
 use Rattle.layout.specs.PackLaws.{NameFits, Each}
 use Rattle.layout.specs.Terms.{variable, seriesBit, encodeValue, tagged, asked, kindNumber, methodHeader}
@@ -39,7 +39,7 @@ pub node-parts : (k x : ℕ) → NameFits x → (node k x / payload ≡ k) × (n
 node-parts k x g = omega arith
 
 pub asked-parts : (k : ℕ) (m : Name) (n : ℕ) → NameOk m → n < 8
-    → (node k (asked m n) / payload ≡ k) × (node k (asked m n) % taggedLimit ≡ tagged m) × (node k (asked m n) % payload / nameLimit / tagLimit ≡ n) × (node k (asked m n) / taggedLimit % 8 ≡ n)
+    → (node k (asked m n) / payload ≡ k) × (node k (asked m n) % taggedLimit ≡ tagged m) × (node k (asked m n) % payload / nameLimit / tagLimit ≡ n) × (node k (asked m n) / taggedLimit % digitLimit ≡ n)
 asked-parts k m n h l = let i = tag-small m h in omega arith
 
 future-parts : (x y : ℕ) → NameFits x → NameFits y → (node 12 (x + nameLimit * y) / payload ≡ 12) × (node 12 (x + nameLimit * y) % nameLimit ≡ x) × (node 12 (x + nameLimit * y) / nameLimit % nameLimit ≡ y)
@@ -139,14 +139,14 @@ module _ (t : List ℕ) (ws : List Bytes) (sp : Spells t ws) where
         plainly (rw e) (rw (e, a, b) (ap₂ {C = Bytes} (λ u v. (40 ∷ futureWord) ++ (u ++ (v ++ []))) (name-shown x g) (name-shown y i))) (rw e) (rw e) (omega arith)
 
   -- ---- literals and methods
-  pub literal-says : (k : Kind) (a b : ℕ) → a < 8 → b < 8 → Says t (node (kindNumber k) (a + 8 * b)) (printKind k) [] [] (a + b)
+  pub literal-says : (k : Kind) (a b : ℕ) → a < 8 → b < 8 → Says t (node (kindNumber k) (a + digitLimit * b)) (printKind k) [] [] (a + b)
   unfolding kindNumber printKind TextOfWords·all bytes
   literal-says k a b f g = go k (head-wants _ (parts k a b) (head-literal k a b f g) .0)
     where
-      kind : (k : ℕ) → node k (a + 8 * b) / payload ≡ k
+      kind : (k : ℕ) → node k (a + digitLimit * b) / payload ≡ k
       kind k = omega arith
 
-      go : (k : Kind) → arity (node (kindNumber k) (a + 8 * b)) ≡ a + b → Says t (node (kindNumber k) (a + 8 * b)) (printKind k) [] [] (a + b)
+      go : (k : Kind) → arity (node (kindNumber k) (a + digitLimit * b)) ≡ a + b → Says t (node (kindNumber k) (a + digitLimit * b)) (printKind k) [] [] (a + b)
       go Kind.object c = let e = kind 15 in plainly (rw e) (rw e) (rw e) c (omega arith)
       go Kind.isolate c = let e = kind 16 in plainly (rw e) (rw e) (rw e) c (omega arith)
       go Kind.actor c = let e = kind 17 in plainly (rw e) (rw e) (rw e) c (omega arith)

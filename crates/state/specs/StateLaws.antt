@@ -156,7 +156,7 @@ module _ (w : List ℕ) (u : Words w) (h : HeadHolds w) where
     found = record { words = dictionary; actors = A .list }
 
     rest-is : drop (partSize * getD w 0 0) (drop headSize w) ≡ zeros (stateWords - (headSize + partSize * getD w 0 0))
-    rest-is = drop-drop (partSize * getD w 0 0) 256 w ∙ h .rest
+    rest-is = drop-drop (partSize * getD w 0 0) headSize w ∙ h .rest
 
     flat-length : length (flat encodeActor (A .list)) ≡ partSize * getD w 0 0
     flat-length = omega (arith, length-flat encodeActor partSize (A .list) (actors-parts (A .list) (A .fit)), A .count)
@@ -237,7 +237,7 @@ module _ (σ : State) (s : IsState σ) (w : List ℕ) (is : w ≡ encode σ) whe
       let m = fits .actorCount in
       let c = n0 in
       let k : (partsSize - length (flat encodeActor (σ .actors))) + tailSize ≡ stateWords - (headSize + partSize * getD w 0 0) = omega arith in
-      sym (drop-drop (partSize * getD w 0 0) 256 w)
+      sym (drop-drop (partSize * getD w 0 0) headSize w)
       ∙ ap (drop (partSize * getD w 0 0)) (actors-at σ fits w is)
       ∙ drop-at (flat encodeActor (σ .actors)) behind (partSize * getD w 0 0) flat-words
       ∙ sym (zeros-split (partsSize - length (flat encodeActor (σ .actors))) tailSize)

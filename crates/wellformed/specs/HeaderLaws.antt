@@ -11,7 +11,7 @@ use lib.Dec.{eqb, ltb, leb}
 use Rattle.atlite.specs.Base.{if_then_else_, member, distinct, all}
 use Rattle.atlite.specs.Valid.{isName, isVariable, parameters}
 use Rattle.atlite.specs.Facts.{and₂}
-use Rattle.layout.specs.Numbers.{payload, fieldKind, nameLimit, noName, tagLimit, taggedLimit, secondPlace, thirdPlace}
+use Rattle.layout.specs.Numbers.{payload, fieldKind, methodUnit, nameLimit, noName, tagLimit, taggedLimit, secondPlace, thirdPlace, digitLimit}
 use Rattle.layout.specs.Parse.{fieldAt, placesIn, paramsAt, named, methodAt}
 use Rattle.wellformed.specs.Words.{within}
 use Rattle.wellformed.specs.WordLaws.{name-past}
@@ -82,11 +82,11 @@ module _ (y z : ℕ) where
   unfolding empty
   empty-first e = rw (ne-eqb y noName e)
 
-pub small-counts : (p : ℕ) → p % 8 ≤ 4 → leb (p / 8) 4 ≡ leb (p % 8) 4 && leb (p / 8) 4
-small-counts p l = rw (le-leb (p % 8) 4 l)
+pub small-counts : (p : ℕ) → p % digitLimit ≤ 4 → leb (p / digitLimit) 4 ≡ leb (p % digitLimit) 4 && leb (p / digitLimit) 4
+small-counts p l = rw (le-leb (p % digitLimit) 4 l)
 
-pub many-fields : (p : ℕ) → 4 < p % 8 → false ≡ leb (p % 8) 4 && leb (p / 8) 4
-many-fields p l = rw (lt-leb (p % 8) 4 l)
+pub many-fields : (p : ℕ) → 4 < p % digitLimit → false ≡ leb (p % digitLimit) 4 && leb (p / digitLimit) 4
+many-fields p l = rw (lt-leb (p % digitLimit) 4 l)
 
 pub ruleset place-laws = (needs, two-first, two-second, two-same, two-yes, third-not, third-first, third-second, third-yes, empty-yes, empty-second, empty-first, small-counts, many-fields)
 
@@ -242,11 +242,11 @@ module _ (c h N : ℕ) where
   head-within ns m none = sym (and-false (fresh c ns m))
   head-within ns m (some xs) = refl
 
-  pub method-other : (h / (64 * payload) ≡ 3 → ⊥) → MethodHeader c N h false
+  pub method-other : (h / methodUnit ≡ 3 → ⊥) → MethodHeader c N h false
   unfolding MethodHeader methodAt within
-  method-other k n ns z m = rw (ne-eqb (h / (64 * payload)) 3 k)
+  method-other k n ns z m = rw (ne-eqb (h / methodUnit) 3 k)
 
-  module _ (o : Bool) (k : h / (64 * payload) ≡ 3) (e : Fresh c N (h % nameLimit) o) where
+  module _ (o : Bool) (k : h / methodUnit ≡ 3) (e : Fresh c N (h % nameLimit) o) where
     pub method-taken : o ≡ false → MethodHeader c N h false
     unfolding MethodHeader Fresh methodAt
     method-taken t n ns z m =

@@ -14,7 +14,7 @@ use Rattle.atlite.specs.Facts.{and₂}
 use Rattle.atlite.specs.Term.{this, Value, Kind, literal, Inits, noField, Methods, noMethod, method, initNames, methodNames, seen}
 use Rattle.atlite.specs.Valid.{isName, namesWithin, parameters}
 use Rattle.atlite.specs.ValidTest.{held, wellFormed, wellFormedInits, wellFormedMethods}
-use Rattle.layout.specs.Numbers.{payload, nameLimit, bodiesSize}
+use Rattle.layout.specs.Numbers.{payload, nameLimit, digitLimit, bodiesSize}
 use Rattle.layout.specs.Terms.{countInits, countMethods}
 use Rattle.layout.specs.Parse.{parts, formed, parseInits, parseMethods}
 use Rattle.layout.specs.ParseSound.{inits-sound, methods-sound}
@@ -126,30 +126,30 @@ module _ (c : ℕ) (p : Value → Bool) (xs : List ℕ) where
       go false b i j h = rw (names-many c (countInits fs) (initNames fs) (field-count fs) i)
 
 -- ---- the ways to return
-module _ (c h : ℕ) (F : List ℕ) (g : ℕ) (w : List ℕ) (at : ℕ) (o : Bool) (e : o ≡ leb (h % payload % 8) 4 && leb (h % payload / 8) 4) where
+module _ (c h : ℕ) (F : List ℕ) (g : ℕ) (w : List ℕ) (at : ℕ) (o : Bool) (e : o ≡ leb (h % payload % digitLimit) 4 && leb (h % payload / digitLimit) 4) where
   pub literal-not : (p : Value → Bool) → o ≡ false → LiteralEnds c p F g w h at 4096
   unfolding LiteralEnds formed
   literal-not p u t k xs s =
-      only-none c p xs w at (ltb (h % payload / 8) 8) (parts t (h % payload % 8) (h % payload / 8))
-      (λ v. ends-pair-none (literal t) (wellFormed c p xs) (parseInits (length w) w (h % payload % 8) at) (λ i. parseMethods (length w) w (h % payload / 8) i) (λ fs i ms j f m.
+      only-none c p xs w at (ltb (h % payload / digitLimit) digitLimit) (parts t (h % payload % digitLimit) (h % payload / digitLimit))
+      (λ v. ends-pair-none (literal t) (wellFormed c p xs) (parseInits (length w) w (h % payload % digitLimit) at) (λ i. parseMethods (length w) w (h % payload / digitLimit) i) (λ fs i ms j f m.
       literal-long c p xs t fs ms (rw (inits-sound (length w) w _ at fs i f .1, methods-sound (length w) w _ i ms j m .1) (sym e ∙ u))))
 
   pub literal-well : (refs own : Bool) (K : List ℕ) (b i u a r : ℕ) (G H : List ℕ) → length w ≤ bodiesSize → o ≡ true → Opens g h i → Refers refs h own → Swapped F 0 i G u
-      → FieldsEnd c (holds own K b) G i w 0 (h % payload % 8) at a → Kept G H → MethodsEnd c (holds own K b) H i w 0 (h % payload / 8 % 8) a r
+      → FieldsEnd c (holds own K b) G i w 0 (h % payload % digitLimit) at a → Kept G H → MethodsEnd c (holds own K b) H i w 0 (h % payload / digitLimit % digitLimit) a r
       → LiteralEnds c (holds refs K b) F g w h at r
   unfolding LiteralEnds formed Refers FieldsEnd MethodsEnd Kept
   literal-well refs own K b i u a r G H l v d f x y z j t k xs s =
       let ys = this ∷ seen t xs in
       let q = holds own K b in
-      let m = and₂ (leb (h % payload % 8) 4) (leb (h % payload / 8) 4) (sym e ∙ v) in
-      let n = leb-true (h % payload % 8) 4 (m .0) in
-      let p = leb-true (h % payload / 8) 4 (m .1) in
+      let m = and₂ (leb (h % payload % digitLimit) 4) (leb (h % payload / digitLimit) 4) (sym e ∙ v) in
+      let n = leb-true (h % payload % digitLimit) 4 (m .0) in
+      let p = leb-true (h % payload / digitLimit) 4 (m .1) in
       let o : Scope G i ys = rw (x .new) (scope-bind F i (seen t xs) (d .inner t k F xs s) 0 (omega arith)) in
-      let c₁ : h % payload / 8 % 8 ≡ h % payload / 8 = omega arith in
-      j ys [] (rw z o) (met-none (h % payload / 8 % 8) (omega arith))
-      ∙ rw (c₁, y ys [] o (met-none (h % payload % 8) (omega arith)), lt-ltb (h % payload / 8) 8 (omega arith))
-      (ends-pair (literal t) (wellFormed c (holds refs K b) xs) (fieldsWell c q ys []) (methodsWell c q ys []) (parseInits (length w) w (h % payload % 8) at) (λ i. parseMethods (length w) w (h % payload / 8) i)
-      (methods-nowhere w (omega arith) (methodsWell c q ys []) (h % payload / 8)) (λ fs i ms j x z.
+      let c₁ : h % payload / digitLimit % digitLimit ≡ h % payload / digitLimit = omega arith in
+      j ys [] (rw z o) (met-none (h % payload / digitLimit % digitLimit) (omega arith))
+      ∙ rw (c₁, y ys [] o (met-none (h % payload % digitLimit) (omega arith)), lt-ltb (h % payload / digitLimit) digitLimit (omega arith))
+      (ends-pair (literal t) (wellFormed c (holds refs K b) xs) (fieldsWell c q ys []) (methodsWell c q ys []) (parseInits (length w) w (h % payload % digitLimit) at) (λ i. parseMethods (length w) w (h % payload / digitLimit) i)
+      (methods-nowhere w (omega arith) (methodsWell c q ys []) (h % payload / digitLimit)) (λ fs i ms j x z.
       literal-named c (holds refs K b) xs t fs ms (omega (arith, inits-sound (length w) w _ at fs i x .1)) (omega (arith, methods-sound (length w) w _ i ms j z .1))
       ∙ ap (λ p. fieldsWell c p ys [] fs && methodsWell c p ys [] ms) (sym (f t k K b))))
 

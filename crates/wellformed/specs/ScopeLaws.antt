@@ -14,7 +14,7 @@ use Rattle.atlite.specs.Base.{if_then_else_, member}
 use Rattle.atlite.specs.Term.{Kind, seen}
 use Rattle.atlite.specs.ValidTest.{held}
 use Rattle.atlite.specs.Facts.{eqb-same}
-use Rattle.layout.specs.Numbers.{payload, nameLimit, noName, tagLimit, taggedLimit, thirdPlace, pairLimit, numberLimit}
+use Rattle.layout.specs.Numbers.{payload, methodUnit, nameLimit, noName, tagLimit, taggedLimit, thirdPlace, pairLimit, numberLimit}
 use Rattle.layout.specs.Terms.{kindNumber}
 use Rattle.layout.specs.Parse.{given, placeForms, placesIn, paramsAt, named, methodAt}
 use Rattle.layout.specs.ParseWords.{along-getD, Holding, under}
@@ -142,7 +142,7 @@ module _ (F : List ℕ) (g : ℕ) (xs : List ℕ) (s : Scope F g xs) (h : ℕ) w
   method-bound =
       let a : h / taggedLimit / nameLimit ≡ h / numberLimit = omega arith in
       let b : h / taggedLimit / pairLimit ≡ h / thirdPlace = omega arith in
-      under _ (eqb (h / (64 * payload)) 3) _ (λ e. under _ (ltb (h % nameLimit) noName) (named (h % nameLimit) (paramsAt h)) (λ l.
+      under _ (eqb (h / methodUnit) 3) _ (λ e. under _ (ltb (h % nameLimit) noName) (named (h % nameLimit) (paramsAt h)) (λ l.
       named-bound (paramsAt h) (ltb-true (h % nameLimit) noName l) (rw (a, b) at (places-bound F g xs s (h / taggedLimit) (h / nameLimit % tagLimit)))))
 
 -- ---- and back

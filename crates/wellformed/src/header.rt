@@ -7,11 +7,13 @@ ghost use mathlib.Core.Bool.{_&&_};
 ghost use Prim.Native.Nat.{_+_, _*_, _≤_, _<_, _/_, _%_};
 ghost use lib.Dec.{leb};
 ghost use Rattle.atlite.specs.Valid.{parameters};
-ghost use Rattle.layout.specs.Numbers.{nameLimit, placesLimit};
+ghost use Rattle.layout.specs.Numbers.{nameLimit, placesLimit, digitLimit};
 ghost use Rattle.layout.specs.Parse.{paramsAt};
 ghost use Rattle.wellformed.specs.Words.{within};
 ghost use Rattle.wellformed.specs.Ends.{Fresh, FieldHeader, two, third, empty, MethodHeader, Arguments};
 use crate::word;
+use layout::DIGIT;
+use layout::METHOD_UNIT;
 use layout::NAME_LIMIT;
 use layout::NO_NAME;
 use layout::PAIR_LIMIT;
@@ -148,7 +150,7 @@ pub fn method_header(h: u32, names: u32, words: u32) -> bool
     requires { ⌜ words ≤ 64 ⌝ }
     ensures { λ r. ⌜ MethodHeader words names h r ⌝ }
 {
-    if h / 1073741824 == 3 {
+    if h / METHOD_UNIT == 3 {
         if is_fresh(h % NAME_LIMIT, names, words) {
             return has_parameters(h, words);
         }
@@ -159,10 +161,10 @@ pub fn method_header(h: u32, names: u32, words: u32) -> bool
 
 // At most four fields, and at most four methods.
 pub fn is_small(p: u32) -> bool
-    ensures { λ r. ⌜ r ≡ leb (p % 8) 4 && leb (p / 8) 4 ⌝ }
+    ensures { λ r. ⌜ r ≡ leb (p % digitLimit) 4 && leb (p / digitLimit) 4 ⌝ }
 {
-    if p % 8 <= 4 {
-        return p / 8 <= 4;
+    if p % DIGIT <= 4 {
+        return p / DIGIT <= 4;
     }
     false
 }

@@ -9,6 +9,7 @@ use crate::FAIL;
 use crate::header;
 use crate::scopes;
 use crate::word;
+use layout::DIGIT;
 use layout::NAME_LIMIT;
 use layout::NO_NAME;
 use layout::PAIR_LIMIT;
@@ -227,8 +228,8 @@ fn literal(
             refs,
             level,
         };
-        let n = (p % 8) as usize;
-        let m = (p / 8 % 8) as usize;
+        let n = (p % DIGIT) as usize;
+        let m = (p / DIGIT % DIGIT) as usize;
         let old = scopes::swap(scope, 0, level);
         let a = fields_from(w, at, n, 0, scope, kinds, inner);
         let r = methods_from(w, a, m, 0, scope, kinds, inner);

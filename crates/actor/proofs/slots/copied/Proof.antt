@@ -1,5 +1,5 @@
 -- `slots::copied` meets its contract: the slots that are left decide where all end. Assumes nothing.
-use Rattle.layout.specs.Numbers.{bodiesSize}
+use Rattle.layout.specs.Numbers.{slotSize, bodiesSize}
 use Rattle.actor.specs.SlotLaws.{slots-laws, Left}
 use Rattle.actor.specs.Tests.{copiedEnd}
 use Rattle.actor.specs.Bodies.{methodsReach}
@@ -11,7 +11,7 @@ use Rattle.actor.proofs.slots.copied.Tie as tie
 
 abbrev Inv-loop : tie.InvT-loop
 Inv-loop w at n k bodies b a words kinds i₀ m₀ left₀ e₀ i m left e =
-    Left (copiedEnd kinds a words w (methodsReach true kinds a words bodies) (methodsReach false kinds a words bodies)) k n at b left m i e × (i + 8 * left ≤ length w) × (m + left ≤ 32) × (e ≤ bodiesSize)
+    Left (copiedEnd kinds a words w (methodsReach true kinds a words bodies) (methodsReach false kinds a words bodies)) k n at b left m i e × (i + slotSize * left ≤ length w) × (m + left ≤ 32) × (e ≤ bodiesSize)
 
 abbrev μ-loop : tie.MeasureT-loop
 μ-loop w at n k bodies b a words kinds i₀ m₀ left₀ e₀ i m left e = left
