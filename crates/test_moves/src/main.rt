@@ -10,6 +10,7 @@ ghost use lib.ListN.{length};
 use atlite::ActorNo;
 use atlite::Moved;
 use input::Input;
+use input::digits;
 
 // The bytes of a record.
 const RECORD: usize = 19;
@@ -21,37 +22,6 @@ const STATE: usize = 16384;
 struct Tally {
     all: u64,
     agreed: u64,
-}
-
-// The digit `b`, 0 where it is none.
-fn digit(b: u8) -> u64
-    ensures { λ r. ⌜ r ≤ 9 ⌝ }
-{
-    if b < b'0' {
-        return 0;
-    }
-    if b'9' < b {
-        return 0;
-    }
-    (b - b'0') as u64
-}
-
-// The number of two digits at `at`.
-fn two_digits(entry: &[u8], at: usize) -> u64
-    requires { ⌜ at + 2 ≤ length (now entry) ⌝ }
-    ensures { λ r. ⌜ r ≤ 99 ⌝ }
-{
-    digit(entry[at]) * 10 + digit(entry[at + 1])
-}
-
-// The number of five digits at `at`.
-fn five_digits(entry: &[u8], at: usize) -> u64
-    requires { ⌜ at + 5 ≤ length (now entry) ⌝ }
-    ensures { λ r. ⌜ r ≤ 99999 ⌝ }
-{
-    let high = two_digits(entry, at) * 1000;
-    let low = two_digits(entry, at + 2) * 10 + digit(entry[at + 4]);
-    high + low
 }
 
 // Sets the word at `i`, if there is one and the number fits.
@@ -141,7 +111,7 @@ fn answer_number(answer: Moved) -> u64 {
 fn actor(entry: &[u8]) -> u8
     requires { ⌜ 19 ≤ length (now entry) ⌝ }
 {
-    let n = two_digits(entry, 2) * 10 + digit(entry[4]);
+    let n = digits::two(entry, 2) * 10 + digits::digit(entry[4]);
     if 255 < n {
         return 255;
     }
@@ -173,7 +143,7 @@ fn agrees(entry: &[u8], start: &[u32], expected: &[u32]) -> bool
     let r = engine::move_actor(&mut words, ActorNo(actor(entry)));
     let n = answer_number(r);
     let at = difference(&words, expected);
-    if n == two_digits(entry, 6) && at == STATE {
+    if n == digits::two(entry, 6) as u64 && at == STATE {
         return true;
     }
     complain(
@@ -216,20 +186,20 @@ fn cut_short(t: Tally) -> Tally
 fn follow(entry: &[u8], start: &mut [u32], expected: &mut [u32])
     requires { ⌜ length (now entry) ≡ 19 ⌝ }
 {
-    let i = five_digits(entry, 2) as usize;
-    let low = five_digits(entry, 13);
-    let v = five_digits(entry, 8) * 100000 + low;
+    let i = digits::five(entry, 2);
+    let low = digits::five(entry, 13);
+    let v = (digits::five(entry, 8) * 100000 + low) as u64;
     match entry[0] {
         b'w' => {
             set_word(start, i, v);
             set_word(expected, i, v);
         }
         b'r' => {
-            repeat(start, i, low as usize);
-            repeat(expected, i, low as usize);
+            repeat(start, i, low);
+            repeat(expected, i, low);
         }
         b'e' => set_word(expected, i, v),
-        b'f' => repeat(expected, i, low as usize),
+        b'f' => repeat(expected, i, low),
         _ => {
             fill(start, 0, STATE, 0);
             fill(expected, 0, STATE, 0);

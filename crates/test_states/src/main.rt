@@ -7,39 +7,17 @@ ghost use mathlib.Core.Path.{_≡_};
 ghost use lib.ListN.{length};
 use atlite::Listed;
 use input::Input;
+use input::digits;
 
 // The bytes of a record.
 const RECORD: usize = 19;
-
-// The digit `b`, 0 where it is none.
-fn digit(b: u8) -> u64
-    ensures { λ r. ⌜ r ≤ 9 ⌝ }
-{
-    if b < b'0' {
-        return 0;
-    }
-    if b'9' < b {
-        return 0;
-    }
-    (b - b'0') as u64
-}
-
-// The number of five digits at `at`.
-fn five_digits(entry: &[u8], at: usize) -> u64
-    requires { ⌜ at + 5 ≤ length (now entry) ⌝ }
-    ensures { λ r. ⌜ r ≤ 99999 ⌝ }
-{
-    let high = digit(entry[at]) * 100 + digit(entry[at + 1]) * 10 + digit(entry[at + 2]);
-    let low = digit(entry[at + 3]) * 10 + digit(entry[at + 4]);
-    high * 100 + low
-}
 
 // Sets the word that the record names, if there is one and the number fits.
 fn set_word(entry: &[u8], words: &mut [u32])
     requires { ⌜ 19 ≤ length (now entry) ⌝ }
 {
-    let i = five_digits(entry, 2) as usize;
-    let v = five_digits(entry, 8) * 100000 + five_digits(entry, 13);
+    let i = digits::five(entry, 2);
+    let v = digits::five(entry, 8) * 100000 + digits::five(entry, 13);
     if words.len() <= i {
         return;
     }

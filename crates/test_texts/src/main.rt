@@ -7,6 +7,7 @@ ghost use lib.ListN.{length};
 use atlite::Printed;
 use atlite::Tabled;
 use input::Input;
+use input::digits;
 
 // The bytes of a record before its text.
 const HEADER: usize = 7;
@@ -17,27 +18,12 @@ struct Tally {
     agreed: u64,
 }
 
-// The digit `b`, 0 where it is none.
-fn digit(b: u8) -> usize
-    ensures { λ r. ⌜ r ≤ 9 ⌝ }
-{
-    if b < b'0' {
-        return 0;
-    }
-    if b'9' < b {
-        return 0;
-    }
-    (b - b'0') as usize
-}
-
 // The length of the text in the record that begins with `head`.
 fn text_length(head: &[u8]) -> usize
     requires { ⌜ 7 ≤ length (now head) ⌝ }
     ensures { λ r. ⌜ r ≤ 9999 ⌝ }
 {
-    let high = digit(head[0]) * 10 + digit(head[1]);
-    let low = digit(head[2]) * 10 + digit(head[3]);
-    high * 100 + low
+    digits::two(head, 0) * 100 + digits::two(head, 2)
 }
 
 // Whether `out` begins with `text`.
@@ -104,7 +90,7 @@ fn go_through(records: &[u8], t: Tally) -> Tally
             agreed: t.agreed,
         };
     }
-    let u = counted(t, &records[HEADER..end], digit(records[5]));
+    let u = counted(t, &records[HEADER..end], digits::digit(records[5]));
     go_through(&records[end..], u)
 }
 

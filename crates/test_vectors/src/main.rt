@@ -8,6 +8,7 @@ ghost use Prim.Native.Nat.{_+_, _≤_};
 ghost use lib.ListN.{length};
 ghost use Rattle.play.specs.Limits.{replayRoom};
 use input::Input;
+use input::digits;
 
 // The file has no more records.
 const RECORDS: u64 = 1000;
@@ -24,29 +25,6 @@ enum Came {
     Differed,
     Ended,
     Unread,
-}
-
-// The digit `b`, 0 where it is none.
-fn digit(b: u8) -> usize
-    ensures { λ r. ⌜ r ≤ 9 ⌝ }
-{
-    if b < b'0' {
-        return 0;
-    }
-    if b'9' < b {
-        return 0;
-    }
-    (b - b'0') as usize
-}
-
-// The number of five digits at `at`.
-fn five_digits(head: &[u8], at: usize) -> usize
-    requires { ⌜ at + 5 ≤ length (now head) ⌝ }
-    ensures { λ r. ⌜ r ≤ 99999 ⌝ }
-{
-    let high = digit(head[at]) * 100 + digit(head[at + 1]) * 10 + digit(head[at + 2]);
-    let low = digit(head[at + 3]) * 10 + digit(head[at + 4]);
-    high * 100 + low
 }
 
 // Writes what the program writes for `input`.
@@ -90,8 +68,8 @@ fn fill(fd: i32, buffer: &mut [u8], n: usize) -> bool {
 
 // What stands behind the head of a record. A record that is cut short or too long agrees with nothing.
 fn play_next(program: Program, fd: i32, head: &[u8; 12]) -> Came {
-    let n = five_digits(head, 0);
-    let m = five_digits(head, 6);
+    let n = digits::five(head, 0);
+    let m = digits::five(head, 6);
     let mut input = [0u8; play::INPUT];
     let mut stored = io::large_buffer();
     if fill(fd, &mut input, n) {

@@ -9,7 +9,7 @@ use Rattle.test_texts.proofs.go_through.Reads as go-through
 use Rattle.test_texts.proofs.go_through.Kinds as go-through-kinds
 use Rattle.test_texts.proofs.+go_through.Lts-go_through as go-through-lts
 use Rattle.test_texts.proofs.counted.Reads as counted-reads
-use Rattle.test_texts.proofs.digit.Reads as digit-reads
+use Rattle.input.proofs.digits.digit.Reads as digit-reads
 use Rattle.test_texts.proofs.text_length.Reads as text-length-reads
 use Rattle.test_texts.proofs.+go_through.{statement}
 use Rattle.test_texts.proofs.+go_through.Tie.{close}
