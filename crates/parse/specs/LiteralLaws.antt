@@ -47,6 +47,27 @@ module _ (A : Type 0) (enc : A → List ℕ) (num : A → ℕ) (most b : ℕ) (R
   pub list-few : c ≤ most
   list-few = let r = once in r .few
 
+-- ---- no item, and what stands behind an opening of d bytes
+module _ (L : Type 0) (enc : L → List ℕ) (num : L → ℕ) (t : Bytes) (at o b : ℕ) (old : List ℕ) where
+  pub no-item : (l : L) (Q : Result (L × Bytes)) → enc l ≡ [] → num l ≡ 0 → Q ≡ done (l, drop at t) → at ≤ length t → b ≤ 4 → ListRead enc num 4 b t at o old old Q at o b
+  no-item l Q e z q w h = record {
+    value = l;
+    is = q;
+    far = omega arith;
+    within = w;
+    wrote = rw e;
+    ends = rw e (omega arith);
+    short = omega arith;
+    counted = omega arith;
+    few = h;
+  }
+
+  pub behind : (d i p c : ℕ) (new : List ℕ) (R Q : Result (L × Bytes)) → Q ≡ R → ListRead enc num 4 b t (at + d) o old new R i p c → ListRead enc num 4 b t at o old new Q i p c
+  behind d i p c new R Q e x =
+      let f = x .far in
+      let y = x .short in
+      record { value = x .value; is = e ∙ x .is; far = omega arith; within = x .within; wrote = x .wrote; ends = x .ends; short = omega arith; counted = x .counted; few = x .few }
+
 -- ---- an item before others
 module _ (L : Type 0) (enc : L → List ℕ) (num : L → ℕ) (con : Src → L → L) (w : ℕ)
     (encoded : (e : Src) (l : L) → enc (con e l) ≡ (w ∷ wideSrc e) ++ enc l) (counts : (e : Src) (l : L) → num (con e l) ≡ suc (num l)) where
@@ -94,17 +115,7 @@ module _ (t : Bytes) (at i o w : ℕ) (old new : List ℕ) (a : Step) (far : at 
 module _ (t : Bytes) (at o b : ℕ) (old new : List ℕ) where
   pub fields-full : at ≤ length t → b ≡ 4 → Lists wideFields countFields 4 b (fieldsFrom b t) t at o old old (Items at o b)
   unfolding Lists TookList fieldsFrom readFields wideSrc countFields
-  fields-full h e n l = record {
-    value = SrcFields.noField;
-    is = rw e;
-    far = omega arith;
-    within = h;
-    wrote = refl;
-    ends = omega arith;
-    short = omega arith;
-    counted = omega arith;
-    few = omega arith;
-  }
+  fields-full h e n l = no-item SrcFields wideFields countFields t at o b old SrcFields.noField _ refl refl (rw e) h (omega arith)
 
   module _ (r : Bool) (s : Starts t at (32 ∷ 40 ∷ 102 ∷ 105 ∷ 101 ∷ 108 ∷ 100 ∷ 32 ∷ []) r) (h : b ≤ 4) (z : b ≡ 4 → ⊥) where
     left : 4 - b ≡ suc (4 - (b + 1))
@@ -117,21 +128,7 @@ module _ (t : Bytes) (at o b : ℕ) (old new : List ℕ) where
     pub fields-more : (a : Listed) → r ≡ true → Lists wideFields countFields 4 b (fieldAt b t) t (at + 8) o old new a
         → Lists wideFields countFields 4 b (fieldsFrom b t) t at o old new a
     unfolding Lists TookList fieldsFrom
-    fields-more (Items i p c) e u n l =
-        let x = u n (omega arith) in
-        let f = x .far in
-        let y = x .short in
-        record {
-          value = x .value;
-          is = rw left (field-is n e) ∙ x .is;
-          far = omega arith;
-          within = x .within;
-          wrote = x .wrote;
-          ends = x .ends;
-          short = omega arith;
-          counted = x .counted;
-          few = x .few;
-        }
+    fields-more (Items i p c) e u n l = behind SrcFields wideFields countFields t at o b old _ i p c new _ _ (rw left (field-is n e)) (u n (omega arith))
     fields-more NoItems e u n l = rw left (field-is n e) ∙ u n (omega arith)
 
     none-is : (n : ℕ) → r ≡ false → readFields (dictionary t) (readExpr operators n (dictionary t)) (suc (4 - (b + 1))) (drop at t) ≡ done (SrcFields.noField, drop at t)
@@ -140,17 +137,7 @@ module _ (t : Bytes) (at o b : ℕ) (old new : List ℕ) where
 
     pub fields-none : r ≡ false → at ≤ length t → Lists wideFields countFields 4 b (fieldsFrom b t) t at o old old (Items at o b)
     unfolding Lists TookList fieldsFrom wideSrc countFields
-    fields-none e k n l = record {
-      value = SrcFields.noField;
-      is = rw left (none-is n e);
-      far = omega arith;
-      within = k;
-      wrote = refl;
-      ends = omega arith;
-      short = omega arith;
-      counted = omega arith;
-      few = h;
-    }
+    fields-none e k n l = no-item SrcFields wideFields countFields t at o b old SrcFields.noField _ refl refl (rw left (none-is n e)) k h
 
   module _ (x : Name) (s : NameOf t at x) where
     pub field-bad : x ≡ NoWord → Lists wideFields countFields 4 b (fieldAt b t) t at o old new NoItems

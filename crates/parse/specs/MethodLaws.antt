@@ -22,23 +22,13 @@ use Rattle.parse.specs.declared.scratch.Listed.the-variants.{Items, NoIt
 use Rattle.parse.specs.Headers.{HeadRead, TookHead, HeaderOf, readAll, readHeader}
 use Rattle.parse.specs.DescentLaws.{bind-assoc}
 use Rattle.parse.specs.DescentContract.{Place, Reads, ListRead, TookList, Lists, readOne, ones, oneWords, methodsFrom, methodAt}
-use Rattle.parse.specs.LiteralLaws.{item-core, OneRead, value-bad, value}
+use Rattle.parse.specs.LiteralLaws.{no-item, behind, item-core, OneRead, value-bad, value}
 
 -- ---- methods
 module _ (t : Bytes) (at o b : ℕ) (old new : List ℕ) where
   pub methods-full : at ≤ length t → b ≡ 4 → Lists wideMethods countMethods 4 b (methodsFrom b t) t at o old old (Items at o b)
   unfolding Lists TookList methodsFrom readMethods wideSrc countMethods
-  methods-full h e n l = record {
-    value = SrcMethods.noMethod;
-    is = rw e;
-    far = omega arith;
-    within = h;
-    wrote = refl;
-    ends = omega arith;
-    short = omega arith;
-    counted = omega arith;
-    few = omega arith;
-  }
+  methods-full h e n l = no-item SrcMethods wideMethods countMethods t at o b old SrcMethods.noMethod _ refl refl (rw e) h (omega arith)
 
   module _ (r : Bool) (s : Starts t at (32 ∷ 40 ∷ 109 ∷ 101 ∷ 116 ∷ 104 ∷ 111 ∷ 100 ∷ 32 ∷ []) r) (h : b ≤ 4) (z : b ≡ 4 → ⊥) where
     left : 4 - b ≡ suc (4 - (b + 1))
@@ -51,21 +41,7 @@ module _ (t : Bytes) (at o b : ℕ) (old new : List ℕ) where
     pub methods-more : (a : Listed) → r ≡ true → Lists wideMethods countMethods 4 b (methodAt b t) t (at + 9) o old new a
         → Lists wideMethods countMethods 4 b (methodsFrom b t) t at o old new a
     unfolding Lists TookList methodsFrom
-    methods-more (Items i p c) e u n l =
-        let x = u n (omega arith) in
-        let f = x .far in
-        let y = x .short in
-        record {
-          value = x .value;
-          is = rw left (method-is n e) ∙ x .is;
-          far = omega arith;
-          within = x .within;
-          wrote = x .wrote;
-          ends = x .ends;
-          short = omega arith;
-          counted = x .counted;
-          few = x .few;
-        }
+    methods-more (Items i p c) e u n l = behind SrcMethods wideMethods countMethods t at o b old _ i p c new _ _ (rw left (method-is n e)) (u n (omega arith))
     methods-more NoItems e u n l = rw left (method-is n e) ∙ u n (omega arith)
 
     none-is : (n : ℕ) → r ≡ false → readMethods (dictionary t) (readExpr operators n (dictionary t)) (suc (4 - (b + 1))) (drop at t) ≡ done (SrcMethods.noMethod, drop at t)
@@ -74,17 +50,7 @@ module _ (t : Bytes) (at o b : ℕ) (old new : List ℕ) where
 
     pub methods-none : r ≡ false → at ≤ length t → Lists wideMethods countMethods 4 b (methodsFrom b t) t at o old old (Items at o b)
     unfolding Lists TookList methodsFrom wideSrc countMethods
-    methods-none e k n l = record {
-      value = SrcMethods.noMethod;
-      is = rw left (none-is n e);
-      far = omega arith;
-      within = k;
-      wrote = refl;
-      ends = omega arith;
-      short = omega arith;
-      counted = omega arith;
-      few = h;
-    }
+    methods-none e k n l = no-item SrcMethods wideMethods countMethods t at o b old SrcMethods.noMethod _ refl refl (rw left (none-is n e)) k h
 
   module _ (x : Header) (s : HeaderOf t at x) where
     pub method-bad : x ≡ NoHead → Lists wideMethods countMethods 4 b (methodAt b t) t at o old new NoItems
