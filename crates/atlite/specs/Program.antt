@@ -3,7 +3,6 @@
 --
 -- Document 01, "Listing and worked examples". A listing that is too long is refused like a text that does not fit a buffer.
 use Prim.Native.Nat.{ℕ}
-use mathlib.Core.Bool.{true, false}
 use mathlib.Core.List.{[], _∷_, _++_}
 use mathlib.Core.Option.{Option, none, some}
 use lib.ListN.{length}

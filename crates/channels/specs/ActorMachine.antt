@@ -29,10 +29,6 @@ pub only-is : {W : Type 0} (b : Bool) (w v : W) → only b w ≡ some v → w �
 only-is true w v p = cc
 only-is false w v p = cc
 
-pub only-true : {W : Type 0} (b : Bool) (w v : W) → only b w ≡ some v → b ≡ true
-only-true true w v p = refl
-only-true false w v p = cc
-
 pub only-some : {W : Type 0} (b : Bool) (w : W) → b ≡ true → only b w ≡ some w
 only-some true w p = refl
 only-some false w p = cc

@@ -6,7 +6,7 @@ use mathlib.Core.List.{List, [], _∷_, map}
 use Prim.Native.Nat.{ℕ, zero, suc}
 use lib.ListN.{replicate}
 use lib.Dec.{eqb}
-use Rattle.channels.specs.Machine.{push, order, Leads, moved, ends, moved-leads, same-ends}
+use Rattle.channels.specs.Machine.{push, order, Leads, moved, ends, same-ends}
 use Rattle.channels.specs.Actors.{Kind, Actors, Laws, sentTo, isMade, eqb-true}
 use Rattle.channels.specs.ActorMachine.{free, Chan, self, box, maker, Name, by, from, uses, only, machine}
 
@@ -95,7 +95,3 @@ module _ {L P Q : Type 0} (blank : L) (local : ℕ → List L → Option (Kind L
         go : (o : Option (Kind L P Q × List L)) → step a s ≡ o → Leads (free A) s ((entry a s o) .0) ((entry a s o) .1)
         go none e = refl
         go (some r) e = (r .1, (sound a s r i e, refl))
-
-    pub run-free : (es : List ℕ) (s : List L) → Inv s
-        → Leads (free A) s (moved (λ a u. entry a u (step a u)) es s) (ends (λ a u. entry a u (step a u)) es s)
-    run-free = moved-leads (machine A law) (λ a u. entry a u (step a u)) entry-free

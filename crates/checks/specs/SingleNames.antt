@@ -42,11 +42,6 @@ eqb-sym x y = go (eqb y x) refl
     go true e = eq-eqb x y (sym (eqb-true y x e))
     go false e = ne-eqb x y (λ z. eqb-false y x e (sym z))
 
--- a name in front of those to be avoided
-swap-in : (a b d : Bool) → cond a false (not b) && d ≡ cond a false (not b && d)
-swap-in true b d = refl
-swap-in false b d = refl
-
 disjoint-cons : (x : ℕ) (ns xs : List ℕ) → disjoint (x ∷ ns) xs ≡ (not (member x xs) && disjoint ns xs)
 unfolding disjoint member
 disjoint-cons x ns [] = refl

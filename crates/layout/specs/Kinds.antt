@@ -2,7 +2,7 @@
 -- follow, how many of them are demanded, what the payload names and which word spells it are asked of the row. So what is true of all
 -- operators of one shape is shown once, and a new operator is a row and a line of `row` and `src-row`. Assumes nothing; nothing here need
 -- be believed.
-use Prim.Native.Nat.{ℕ, suc, _+_, _-_, _*_, _≤_, _<_, _/_, _%_}
+use Prim.Native.Nat.{ℕ, suc, _+_, _-_, _≤_, _<_, _/_, _%_}
 use mathlib.Core.Path.{_≡_, refl}
 use mathlib.Core.Bool.{Bool, true, false, _&&_, _||_, cond}
 use mathlib.Core.List.{List, [], _∷_, _++_, map}

@@ -3,7 +3,7 @@
 -- A reader of a position answers with what it got and where that ends, or with nothing. What a word asks for behind it (`Head`) is
 -- found from the word alone, so that all arithmetic is in `headAt`, `fieldAt` and `methodAt`, and the recursion has one case for
 -- each number of parts and none for a kind. Only terms take fuel; lists go by their count.
-use Prim.Native.Nat.{ℕ, zero, suc, _+_, _-_, _*_, _/_, _%_}
+use Prim.Native.Nat.{ℕ, zero, suc, _+_, _-_, _/_, _%_}
 use mathlib.Core.Bool.{Bool, true, false, cond}
 use mathlib.Core.List.{List, [], _∷_}
 use mathlib.Core.Option.{Option, some}

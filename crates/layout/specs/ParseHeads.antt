@@ -1,7 +1,7 @@
 -- The head that a word is, exactly. `Reads` says of a head what a term made with it must be: fitting, where its parts are, and laid
 -- out as this word and then the parts; every word's head is such a head, and every term's first word has the head of that term.
 -- By the table of kinds, one clause a form. Assumes nothing.
-use Prim.Native.Nat.{ℕ, zero, suc, _+_, _*_, _≤_, _<_, _/_, _%_}
+use Prim.Native.Nat.{ℕ, zero, suc, _+_, _*_, _<_, _/_, _%_}
 use mathlib.Core.Path.{_≡_, refl, sym, ap, ap₂, _∙_, subst as transp}
 use mathlib.Core.Bool.{Bool, true, false}
 use mathlib.Core.List.{List, [], _∷_, _++_}
@@ -14,7 +14,7 @@ use Rattle.atlite.specs.Term.{Value, null, num, ref, Name, Op, call, send, writ
 use Rattle.layout.specs.Numbers.{payload, nameLimit, noName, tagLimit, taggedLimit, numberLimit, digitLimit}
 use Rattle.layout.specs.Pack.{node}
 use Rattle.layout.specs.Terms.{countInits, countMethods, seriesBit, encodeValue, tagged, asked, arguments, opKind, opPayload, kindNumber, encodeTerm, encodeTerms, encodeInits, encodeMethods}
-use Rattle.layout.specs.Kinds.{Kinds, Bare, Fields, Form, nothing, nullValue, number, reference, variable, bare, onField, calls, sends, formKind, formIn, by-kind, form-none, Row, isBare, isField, isCall, isSend, row}
+use Rattle.layout.specs.Kinds.{Kinds, Bare, Fields, Form, nothing, nullValue, number, reference, variable, bare, onField, calls, sends, formKind, by-kind, Row, isBare, isField, isCall, isSend, row}
 use Rattle.layout.specs.PackLaws.{pack-low, pack-high, NameFits}
 use Rattle.layout.specs.TermLaws.{bare-payload, bare-count, field-payload, field-count, ValueFits, NameOk, ShapeFits, OpFits, Fits, FitsAll, FitsInits, FitsMethods}
 use Rattle.layout.specs.TermReads.{bit, ref-back, label-small, asked-count}

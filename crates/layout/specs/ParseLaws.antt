@@ -1,24 +1,18 @@
 -- The reader of positions is exact: with fuel for the words that are left, a term is got at a position, with an end, just where it
 -- fits and its words stand from the one to the other. From its two halves (`ParseComplete`, `ParseSound`); hence how much fuel there
 -- is does not matter, and the other way of reading (`termAt`) agrees. Assumes nothing.
-use Prim.Native.Nat.{ℕ, suc, _+_, _-_, _≤_, _<_}
+use Prim.Native.Nat.{ℕ, suc, _+_, _-_, _≤_}
 use mathlib.Core.Path.{_≡_, refl, sym, ap, _∙_}
-use mathlib.Core.List.{List, _++_}
+use mathlib.Core.List.{List}
 use native.Mathlib.Omega.{arith}
 use mathlib.Core.Logic.{_↔_}
 use lib.ListN.{length, drop, getD}
-use Rattle.atlite.specs.Term.{null, Term, Terms, Inits, Methods, countTerms, val, var, op, letIn, future, literal}
-use Rattle.layout.specs.Pack.{zeros, pad}
-use Rattle.layout.specs.PackLaws.{pad-front}
-use Rattle.layout.specs.Terms.{countInits, countMethods, encodeTerm, encodeTerms, encodeInits, encodeMethods}
-use Rattle.layout.specs.TermReading.{termAt}
-use Rattle.layout.specs.Reading.{first}
-use Rattle.layout.specs.TermReads.{read-term}
-use Rattle.layout.specs.TermLaws.{Fits}
-use Rattle.layout.specs.Parse.{Got, none, got, headAt, formed, parseTerm, parseTerms, parseInits, parseMethods}
-use Rattle.layout.specs.Spans.{Spans, span-of, span-inside, span-short}
-use Rattle.layout.specs.ParseComplete.{Meets, term-complete, terms-complete, inits-complete, methods-complete}
-use Rattle.layout.specs.ParseSound.{TermAt, TermsAt, InitsAt, MethodsAt, term-sound, terms-sound, inits-sound, methods-sound}
+use Rattle.atlite.specs.Term.{Term, Methods, val, var, op, letIn, future, literal}
+use Rattle.layout.specs.Terms.{countMethods, encodeTerm, encodeMethods}
+use Rattle.layout.specs.Parse.{Got, none, got, headAt, formed, parseTerm, parseMethods}
+use Rattle.layout.specs.Spans.{Spans, span-short}
+use Rattle.layout.specs.ParseComplete.{Meets, term-complete, methods-complete}
+use Rattle.layout.specs.ParseSound.{TermAt, MethodsAt, term-sound, methods-sound}
 
 -- where all of w from `at` on may be read
 abbrev pub Enough : ℕ → List ℕ → ℕ → Type 0
@@ -31,18 +25,6 @@ meets-span p w xs a h n at i l s = h n at (drop i w) (span-short w at i n xs s l
 module _ (n : ℕ) (w : List ℕ) (at : ℕ) (l : Enough n w at) where
   pub term-iff : (e : Term) (i : ℕ) → (parseTerm n w at ≡ got e i) ↔ TermAt w at e i
   term-iff e i = (term-sound n w at e i, λ h. meets-span (λ n at. parseTerm n w at) w (encodeTerm e) e (term-complete e w (h .0)) n at i l (h .1))
-
-  pub terms-iff : (c : ℕ) (es : Terms) (i : ℕ) → (parseTerms n w c at ≡ got es i) ↔ TermsAt w c at es i
-  terms-iff c es i = (
-    terms-sound n w c at es i,
-    λ h. ap (λ k. parseTerms n w k at) (sym (h .1)) ∙ meets-span (λ n at. parseTerms n w (countTerms es) at) w (encodeTerms es) es (terms-complete es w (h .0)) n at i l (h .2),
-  )
-
-  pub inits-iff : (c : ℕ) (fs : Inits) (i : ℕ) → (parseInits n w c at ≡ got fs i) ↔ InitsAt w c at fs i
-  inits-iff c fs i = (
-    inits-sound n w c at fs i,
-    λ h. ap (λ k. parseInits n w k at) (sym (h .1)) ∙ meets-span (λ n at. parseInits n w (countInits fs) at) w (encodeInits fs) fs (inits-complete fs w (h .0)) n at i l (h .2),
-  )
 
   pub methods-iff : (c : ℕ) (ms : Methods) (i : ℕ) → (parseMethods n w c at ≡ got ms i) ↔ MethodsAt w c at ms i
   methods-iff c ms i = (

@@ -1,19 +1,16 @@
 -- The dictionary of any text: its words are different, none is `apply`, and each word that stands in the text by itself has a
 -- number. The invariant is on the words found so far, as the text is gone through. Assumes nothing.
 use mathlib.Core.Path.{_≡_, refl, sym, ap, _∙_}
-use mathlib.Core.Bool.{Bool, true, false, false≢true, _&&_, _||_, not}
-use mathlib.Core.Option.{some}
+use mathlib.Core.Bool.{Bool, true, false, _&&_, not}
 use mathlib.Core.List.{List, [], _∷_, _++_, append-assoc, append-nil}
 use Prim.Native.Nat.{ℕ, suc, _≤_}
 use native.Mathlib.Omega.{arith}
 use lib.ListN.{length}
 use borrow.Author.Tests.{not-true}
 use Rattle.atlite.specs.Base.{bytes, sameBytes, if_then_else_, all}
-use Rattle.atlite.specs.Term.{apply, firstWord}
-use Rattle.atlite.specs.Lexicon.{Bytes, among, isWord, inWord, noted, wordsFrom, wordsOf, withoutApply, dictionary, place, numberOf}
+use Rattle.atlite.specs.Lexicon.{Bytes, among, isWord, inWord, noted, wordsFrom, wordsOf, withoutApply, dictionary}
 use Rattle.atlite.specs.Valid.{wordsHold}
-use Rattle.atlite.specs.Facts.{and₂, or-false, or-right, same-true, same-refl, same-false-sym}
-use Rattle.reading.specs.Items.{Ends, word-parts}
+use Rattle.atlite.specs.Facts.{and₂, or-false, same-true, same-false-sym}
 
 -- different words
 Separate : List Bytes → Type 0
@@ -97,62 +94,10 @@ pub dictionary-length : (t : Bytes) → length (dictionary t) ≤ length (wordsO
 unfolding dictionary
 dictionary-length t = without-length (wordsOf t)
 
--- A word once found stays found.
-among-append : (ws vs : List Bytes) (w : Bytes) → among ws w ≡ true → among (ws ++ vs) w ≡ true
-unfolding among
-among-append [] vs w h = absurd (false≢true h)
-among-append (u ∷ ws) vs w h = go (sameBytes u w) h (among-append ws vs w)
-  where
-    go : (b : Bool) → (b || among ws w) ≡ true → (among ws w ≡ true → among (ws ++ vs) w ≡ true) → (b || among (ws ++ vs) w) ≡ true
-    go true k ih = refl
-    go false k ih = ih k
-
-noted-keeps : (ws : List Bytes) (u w : Bytes) → among ws w ≡ true → among (noted ws u) w ≡ true
-unfolding noted if_then_else_
-noted-keeps ws u w h = go (isWord u && not (among ws u))
-  where
-    go : (b : Bool) → among (if b then ws ++ (u ∷ []) else ws) w ≡ true
-    go true = among-append ws (u ∷ []) w h
-    go false = h
-
-words-keep : (i : Bytes) (ws : List Bytes) (u w : Bytes) → among ws w ≡ true → among (wordsFrom ws u i) w ≡ true
-unfolding wordsFrom if_then_else_
-words-keep [] ws u w h = noted-keeps ws u w h
-words-keep (b ∷ i) ws u w h =
-    words-keep i (if inWord b then ws else noted ws u) (if inWord b then u ++ (b ∷ []) else []) w (go (inWord b))
-  where
-    go : (c : Bool) → among (if c then ws else noted ws u) w ≡ true
-    go true = h
-    go false = noted-keeps ws u w h
-
-among-end : (ws : List Bytes) (w : Bytes) → among (ws ++ (w ∷ [])) w ≡ true
-unfolding among
-among-end [] w = rw (same-refl w)
-among-end (u ∷ ws) w = or-right (sameBytes u w) (among-end ws w)
-
--- It is found where its run of letters and digits ends, wherever that began.
-noted-finds : (ws : List Bytes) (w : Bytes) → isWord w ≡ true → among (noted ws w) w ≡ true
-unfolding noted if_then_else_
-noted-finds ws w h = go (among ws w) refl
-  where
-    go : (b : Bool) → among ws w ≡ b → among (noted ws w) w ≡ true
-    go true e = noted-keeps ws w w e
-    go false e = rw (h, e) (among-end ws w)
-
 words-in : (b : ℕ) (i : Bytes) (ws : List Bytes) (w : Bytes) → inWord b ≡ true
     → wordsFrom ws w (b ∷ i) ≡ wordsFrom ws (w ++ (b ∷ [])) i
 unfolding wordsFrom if_then_else_
 words-in b i ws w h = rw h
-
-words-out : (b : ℕ) (i : Bytes) (ws : List Bytes) (w : Bytes) → inWord b ≡ false
-    → wordsFrom ws w (b ∷ i) ≡ wordsFrom (noted ws w) [] i
-unfolding wordsFrom if_then_else_
-words-out b i ws w h = rw h
-
-words-find : (j : Bytes) (ws : List Bytes) (w : Bytes) → isWord w ≡ true → Ends j → among (wordsFrom ws w j) w ≡ true
-unfolding wordsFrom
-words-find [] ws w h e = noted-finds ws w h
-words-find (b ∷ j) ws w h e = rw (words-out b j ws w e) (words-keep j (noted ws w) [] w (noted-finds ws w h))
 
 pub words-run : (v j : Bytes) (ws : List Bytes) (w : Bytes) → all inWord v ≡ true → wordsFrom ws w (v ++ j) ≡ wordsFrom ws (w ++ v) j
 unfolding all
@@ -160,46 +105,3 @@ words-run [] j ws w h = ap (λ u. wordsFrom ws u j) (sym (append-nil w))
 words-run (b ∷ v) j ws w h =
     let p = and₂ (inWord b) (all inWord v) h in
     words-in b (v ++ j) ws w (p .0) ∙ words-run v j ws (w ++ (b ∷ [])) (p .1) ∙ ap (λ u. wordsFrom ws u j) (append-assoc w (b ∷ []) v)
-
-first-found : (v j : Bytes) (ws : List Bytes) → isWord v ≡ true → Ends j → among (wordsFrom ws [] (v ++ j)) v ≡ true
-first-found v j ws h e = rw (words-run v j ws [] (word-parts v h .1)) (words-find j ws v h e)
-
-later-found : (p : Bytes) (b : ℕ) (v j : Bytes) (ws : List Bytes) (w : Bytes) → inWord b ≡ false → isWord v ≡ true → Ends j
-    → among (wordsFrom ws w (p ++ (b ∷ (v ++ j)))) v ≡ true
-unfolding wordsFrom if_then_else_
-later-found [] b v j ws w n h e = rw (words-out b (v ++ j) ws w n) (first-found v j (noted ws w) h e)
-later-found (c ∷ p) b v j ws w n h e =
-    later-found p b v j (if inWord c then ws else noted ws w) (if inWord c then w ++ (c ∷ []) else []) n h e
-
--- what is found has a number
-without-keeps : (ws : List Bytes) (w : Bytes) → sameBytes w (bytes "apply") ≡ false → among ws w ≡ true
-    → among (withoutApply ws) w ≡ true
-unfolding among withoutApply if_then_else_
-without-keeps [] w n h = h
-without-keeps (u ∷ ws) w n h = go (sameBytes u (bytes "apply")) refl (sameBytes u w) refl h (without-keeps ws w n)
-  where
-    go : (a : Bool) → sameBytes u (bytes "apply") ≡ a → (b : Bool) → sameBytes u w ≡ b → (b || among ws w) ≡ true
-        → (among ws w ≡ true → among (withoutApply ws) w ≡ true) → among (if a then ws else u ∷ withoutApply ws) w ≡ true
-    go true e true f k ih = absurd (false≢true (sym n ∙ ap (λ v. sameBytes v (bytes "apply")) (sym (same-true u w f)) ∙ e))
-    go true e false f k ih = k
-    go false e true f k ih = rw f
-    go false e false f k ih = rw f (ih k)
-
-place-found : (n : ℕ) (ws : List Bytes) (w : Bytes) → among ws w ≡ true → (x : ℕ) × (place n ws w ≡ some x)
-unfolding among place if_then_else_
-place-found n [] w h = absurd (false≢true h)
-place-found n (u ∷ ws) w h = go (sameBytes u w) h (place-found (suc n) ws w)
-  where
-    go : (b : Bool) → (b || among ws w) ≡ true → (among ws w ≡ true → (x : ℕ) × (place (suc n) ws w ≡ some x))
-        → (x : ℕ) × ((if b then some n else place (suc n) ws w) ≡ some x)
-    go true k ih = (n, refl)
-    go false k ih = ih k
-
-number-found : (t w : Bytes) → among (wordsOf t) w ≡ true → (x : ℕ) × (numberOf (dictionary t) w ≡ some x)
-unfolding numberOf dictionary if_then_else_
-number-found t w h = go (sameBytes w (bytes "apply")) refl
-  where
-    go : (b : Bool) → sameBytes w (bytes "apply") ≡ b
-        → (x : ℕ) × ((if b then some apply else place firstWord (withoutApply (wordsOf t)) w) ≡ some x)
-    go true e = (apply, refl)
-    go false e = place-found firstWord (withoutApply (wordsOf t)) w (without-keeps (wordsOf t) w e h)

@@ -11,7 +11,7 @@ use native.Mathlib.Omega.{arith}
 use lib.ListN.{length, length-append}
 use lib.Dec.{eqb, leb}
 use borrow.Author.Tests.{eqb-true, leb-true, eq-eqb, le-leb}
-use Rattle.atlite.specs.Base.{Base, bytes, if_then_else_, sameBytes, all}
+use Rattle.atlite.specs.Base.{Base, if_then_else_, sameBytes, all}
 use Rattle.atlite.specs.Lexicon.{Bytes, inWord, isLetter, isDigit, letterFirst, isWord, among}
 use Rattle.atlite.specs.Term.{Term·all, plain, plus, percent, get, set, call, send, Kind, object, isolate, actor}
 use Rattle.atlite.specs.Valid.{All, isName, callable, sendable, operable}
