@@ -77,8 +77,10 @@ pub const NAME_LIMIT: u32 = 128;
 
 pub const NO_NAME: u32 = 127;
 
-// Where a message's number of arguments stands, and a method's parameters.
-pub const TAGGED_LIMIT: u32 = NAME_LIMIT * 4;
+// The tags of a message's name, and the numbers of parameters; where a message's number of arguments stands, and a method's parameters.
+pub const TAG_LIMIT: u32 = 4;
+
+pub const TAGGED_LIMIT: u32 = NAME_LIMIT * TAG_LIMIT;
 
 pub const SECOND_PLACE: u32 = TAGGED_LIMIT * NAME_LIMIT;
 
