@@ -14,7 +14,7 @@ use Rattle.atlite.specs.Term.{made, Value, ref}
 use Rattle.atlite.specs.State.{Message, O, I, Entity, object, future, resolver, isIsolate}
 use Rattle.atlite.specs.Valid.{IsEntity}
 use Rattle.atlite.specs.Facts.{and₂, and₃, and₄, both₂, both₃, both₄}
-use Rattle.layout.specs.Numbers.{digitLimit, digitsLimit, slotUnit, slotSize, bodiesSize}
+use Rattle.layout.specs.Numbers.{digitLimit, digitsLimit, slotUnit, slotSize, slotCount, bodiesSize}
 use Rattle.layout.specs.Pack.{zeros}
 use Rattle.layout.specs.Terms.{encodeValue, encodeMethods}
 use Rattle.layout.specs.Layout.{slotHead, tagNumber, slot, methodsOf}
@@ -43,7 +43,7 @@ kind-near : (K : List ℕ) (a n : ℕ) → (kindAt K a made n ≡ 0 → ⊥) →
 unfolding kindAt
 kind-near K a n h = go (ltb a 4) (ltb n 32) refl h
   where
-    go : (x y : Bool) → ltb n 32 ≡ y → (cond (x && y) (getD K (48 * a + n) 0) 0 ≡ 0 → ⊥) → n < 32
+    go : (x y : Bool) → ltb n 32 ≡ y → (cond (x && y) (getD K (slotCount * a + n) 0) 0 ≡ 0 → ⊥) → n < 32
     go true true e h = ltb-true n 32 e
     go true false e h = absurd (h refl)
     go false y e h = absurd (h refl)

@@ -12,7 +12,7 @@ use lib.Dec.{eqb, ltb, leb}
 use lib.ListN.{length, getD}
 use Rattle.atlite.specs.Base.{all}
 use Rattle.atlite.specs.Term.{made, null, ref}
-use Rattle.layout.specs.Numbers.{payload, digitLimit, digitsLimit, slotUnit, slotSize, slotBody, bodiesSize}
+use Rattle.layout.specs.Numbers.{payload, digitLimit, digitsLimit, slotUnit, slotSize, slotBody, slotCount, bodiesSize}
 use Rattle.layout.specs.TermReading.{refIn}
 use Rattle.layout.specs.Parse.{given, valueForms, valueIn, valueAt, valuesAt, zerosAt, parseMethods}
 use Rattle.wellformed.specs.Kinds.{kindAt, kindOf, allowed, futureBy}
@@ -61,11 +61,11 @@ module _ (K : List ℕ) (a n : ℕ) where
   unfolding futureBy kindOf kindAt
   own-far h = rw (le-ltb n 32 h) (go (ltb a 4))
     where
-      go : (b : Bool) → false ≡ (eqb (cond (b && false) (getD K (48 * a + n) 0) 0) 3 || eqb (cond (b && false) (getD K (48 * a + n) 0) 0) 4)
+      go : (b : Bool) → false ≡ (eqb (cond (b && false) (getD K (slotCount * a + n) 0) 0) 3 || eqb (cond (b && false) (getD K (slotCount * a + n) 0) 0) 4)
       go true = refl
       go false = refl
 
-  pub own-near : a < 4 → n < 32 → (r : Bool) → r ≡ (eqb (getD K (48 * a + n) 0) 3 || eqb (getD K (48 * a + n) 0) 4) → r ≡ futureBy K (ref a made n)
+  pub own-near : a < 4 → n < 32 → (r : Bool) → r ≡ (eqb (getD K (slotCount * a + n) 0) 3 || eqb (getD K (slotCount * a + n) 0) 4) → r ≡ futureBy K (ref a made n)
   unfolding futureBy kindOf kindAt
   own-near l i r h = rw (lt-ltb a 4 l, lt-ltb n 32 i) h
 

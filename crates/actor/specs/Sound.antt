@@ -104,7 +104,7 @@ module _ (K : List ℕ) (a W : ℕ) (w : List ℕ) (few : W ≤ 64) (l : a < own
   expr-sound e j g h =
       let n = getD w 5 0 in
       let R = take exprSize (drop exprAt w) in
-      let r = and₃ (eqb e n) (leb (nodesIn (slice 0 n R)) 256) (zerosAt w (exprSize - n) (16 + n)) h in
+      let r = and₃ (eqb e n) (leb (nodesIn (slice 0 n R)) 256) (zerosAt w (exprSize - n) (exprAt + n)) h in
       let d = eqb-true e n (r .0) in
       let k = g .expr in
       let t = j .sound (omega arith) in

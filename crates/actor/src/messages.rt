@@ -13,9 +13,10 @@ use layout::NUMBER_LIMIT;
 use layout::OWNER_UNIT;
 use layout::PAYLOAD;
 use layout::SLOT;
+use layout::STATE_SLOTS;
 
 // Whether the message at `at` may be sent, whoever receives it.
-fn sent(w: &[u32], at: usize, a: u32, words: u32, kinds: &[u8; 192]) -> bool
+fn sent(w: &[u32], at: usize, a: u32, words: u32, kinds: &[u8; STATE_SLOTS]) -> bool
     requires { ⌜ (at + messageSize ≤ length (now w)) × (words ≤ 64) ⌝ }
     ensures { λ r. ⌜ r ≡ sentAt (now (kinds .entry)) a words (now (w .entry)) at ⌝ }
 {
@@ -37,7 +38,7 @@ fn sent(w: &[u32], at: usize, a: u32, words: u32, kinds: &[u8; 192]) -> bool
 }
 
 // Whether the message at `at` may stand in the inbox of the actor `a`.
-fn arrived(w: &[u32], at: usize, a: u32, words: u32, kinds: &[u8; 192]) -> bool
+fn arrived(w: &[u32], at: usize, a: u32, words: u32, kinds: &[u8; STATE_SLOTS]) -> bool
     requires { ⌜ (at + messageSize ≤ length (now w)) × (words ≤ 64) × (a < 4) ⌝ }
     ensures { λ r. ⌜ r ≡ arrivedAt (now (kinds .entry)) a words (now (w .entry)) at ⌝ }
 {
@@ -52,7 +53,7 @@ fn arrived(w: &[u32], at: usize, a: u32, words: u32, kinds: &[u8; 192]) -> bool
 }
 
 // The same of `n` messages.
-pub fn inbox(w: &[u32], at: usize, n: usize, a: u32, words: u32, kinds: &[u8; 192]) -> bool
+pub fn inbox(w: &[u32], at: usize, n: usize, a: u32, words: u32, kinds: &[u8; STATE_SLOTS]) -> bool
     requires { ⌜ (at + messageSize * n ≤ length (now w)) × (words ≤ 64) × (a < 4) ⌝ }
     ensures { λ r. ⌜ r ≡ arrivalsAt (now (kinds .entry)) a words (now (w .entry)) n at ⌝ }
 {
@@ -66,7 +67,15 @@ pub fn inbox(w: &[u32], at: usize, n: usize, a: u32, words: u32, kinds: &[u8; 19
 }
 
 // Whether the message at `at` waits at an open future of the actor `a`, from the number `low` on, of `m` entities.
-fn waits(w: &[u32], at: usize, m: usize, low: usize, a: u32, words: u32, kinds: &[u8; 192]) -> bool
+fn waits(
+    w: &[u32],
+    at: usize,
+    m: usize,
+    low: usize,
+    a: u32,
+    words: u32,
+    kinds: &[u8; STATE_SLOTS],
+) -> bool
     requires { ⌜ (at + messageSize ≤ length (now w)) × (words ≤ 64) × (a < 4) × (madeAt + slotSize * m ≤ length (now w)) ⌝ }
     ensures { λ r. ⌜ r ≡ waitsAt (now (kinds .entry)) a words (now (w .entry)) m low at ⌝ }
 {
@@ -96,7 +105,7 @@ pub fn waiting(
     low: usize,
     a: u32,
     words: u32,
-    kinds: &[u8; 192],
+    kinds: &[u8; STATE_SLOTS],
 ) -> bool
     requires { ⌜ (at + messageSize * n ≤ length (now w)) × (words ≤ 64) × (a < 4) × (madeAt + slotSize * m ≤ length (now w)) ⌝ }
     ensures { λ r. ⌜ r ≡ waitersAt (now (kinds .entry)) a words (now (w .entry)) m n low at ⌝ }

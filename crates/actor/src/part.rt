@@ -25,6 +25,7 @@ use layout::MOST;
 use layout::QUEUE_SIZE;
 use layout::REST;
 use layout::SLOT;
+use layout::STATE_SLOTS;
 use layout::WAITING;
 
 // How many words an expression may have, and how many stand behind the slots of the copies.
@@ -67,7 +68,7 @@ fn head(part: &[u32]) -> bool
 }
 
 // The expression, whose words are counted in the head.
-fn expr(part: &[u32], a: u32, words: u32, kinds: &[u8; 192]) -> bool
+fn expr(part: &[u32], a: u32, words: u32, kinds: &[u8; STATE_SLOTS]) -> bool
     requires { ⌜ Heads (now part) × (words ≤ 64) ⌝ }
     ensures { λ r. ⌜ r ≡ exprHolds (now (part .entry)) (exprReach (now (kinds .entry)) a words (take exprSize (drop exprAt (now (part .entry))))) ⌝ }
 {
@@ -84,7 +85,7 @@ fn expr(part: &[u32], a: u32, words: u32, kinds: &[u8; 192]) -> bool
 }
 
 // The inbox.
-fn inbox(part: &[u32], a: u32, words: u32, kinds: &[u8; 192]) -> bool
+fn inbox(part: &[u32], a: u32, words: u32, kinds: &[u8; STATE_SLOTS]) -> bool
     requires { ⌜ Heads (now part) × (words ≤ 64) × (a < 4) ⌝ }
     ensures { λ r. ⌜ r ≡ inboxHolds (now (part .entry)) (now (kinds .entry)) a words ⌝ }
 {
@@ -96,7 +97,7 @@ fn inbox(part: &[u32], a: u32, words: u32, kinds: &[u8; 192]) -> bool
 }
 
 // The messages that wait at futures.
-fn waiting(part: &[u32], a: u32, words: u32, kinds: &[u8; 192]) -> bool
+fn waiting(part: &[u32], a: u32, words: u32, kinds: &[u8; STATE_SLOTS]) -> bool
     requires { ⌜ Heads (now part) × (words ≤ 64) × (a < 4) ⌝ }
     ensures { λ r. ⌜ r ≡ waitingHolds (now (part .entry)) (now (kinds .entry)) a words ⌝ }
 {
@@ -127,7 +128,7 @@ fn end(part: &[u32], d: usize) -> bool
 }
 
 // Both series, and the methods of all entities one behind the other.
-fn heap(part: &[u32], a: u32, words: u32, kinds: &[u8; 192]) -> bool
+fn heap(part: &[u32], a: u32, words: u32, kinds: &[u8; STATE_SLOTS]) -> bool
     requires { ⌜ Heads (now part) × (words ≤ 64) × (a < 4) ⌝ }
     ensures { λ r. ⌜ r ≡ heapHolds (now (part .entry)) (now (kinds .entry)) a words (methodsReach true (now (kinds .entry)) a words (take bodiesSize (drop bodiesAt (now (part .entry))))) (methodsReach false (now (kinds .entry)) a words (take bodiesSize (drop bodiesAt (now (part .entry))))) ⌝ }
 {
@@ -146,7 +147,7 @@ fn heap(part: &[u32], a: u32, words: u32, kinds: &[u8; 192]) -> bool
 }
 
 // All but the head and the expression.
-fn rest(part: &[u32], a: u32, words: u32, kinds: &[u8; 192]) -> bool
+fn rest(part: &[u32], a: u32, words: u32, kinds: &[u8; STATE_SLOTS]) -> bool
     requires { ⌜ Heads (now part) × (words ≤ 64) × (a < 4) ⌝ }
     ensures { λ r. ⌜ r ≡ restHolds (now (part .entry)) (now (kinds .entry)) a words (methodsReach true (now (kinds .entry)) a words (take bodiesSize (drop bodiesAt (now (part .entry))))) (methodsReach false (now (kinds .entry)) a words (take bodiesSize (drop bodiesAt (now (part .entry))))) ⌝ }
 {
@@ -161,7 +162,7 @@ fn rest(part: &[u32], a: u32, words: u32, kinds: &[u8; 192]) -> bool
 
 // Whether the words `part` are those of an actor `a` that holds the conditions of a state with `words` words and entities of the
 // kinds `kinds`. No words of an actor are refused, and none are taken that are not an actor's to the last zero.
-pub fn is_actor(part: &[u32], a: u32, words: u32, kinds: &[u8; 192]) -> bool
+pub fn is_actor(part: &[u32], a: u32, words: u32, kinds: &[u8; STATE_SLOTS]) -> bool
     requires { ⌜ (length (now part) ≡ partSize) × (words ≤ 64) × (a < 4) ⌝ }
     ensures { λ r. ⌜ Decides (IsPart (now (kinds .entry)) a words (now (part .entry))) r ⌝ }
 {

@@ -20,6 +20,10 @@ use layout::PAYLOAD;
 use layout::SLOT;
 use layout::SLOT_BODY;
 use layout::SLOT_UNIT;
+use layout::STATE_SLOTS;
+
+// The slots of a part, as words count them.
+const SLOTS: u32 = layout::SLOT_COUNT as u32;
 
 // The answer where no entity is.
 const FAIL: usize = 4096;
@@ -36,7 +40,7 @@ fn is_future(k: u8) -> bool
 }
 
 // Whether the word `x` is a reference to a future.
-fn future(x: u32, kinds: &[u8; 192]) -> bool
+fn future(x: u32, kinds: &[u8; STATE_SLOTS]) -> bool
     ensures { λ r. ⌜ r ≡ within (futureBy (now (kinds .entry))) (valueAt x) ⌝ }
 {
     if x / PAYLOAD != 3 {
@@ -46,18 +50,18 @@ fn future(x: u32, kinds: &[u8; 192]) -> bool
 }
 
 // Whether the entity `n` that the actor `a` made is a future.
-fn own_future(n: u32, a: u32, kinds: &[u8; 192]) -> bool
+fn own_future(n: u32, a: u32, kinds: &[u8; STATE_SLOTS]) -> bool
     requires { ⌜ a < 4 ⌝ }
     ensures { λ r. ⌜ r ≡ futureBy (now (kinds .entry)) (ref a seriesM n) ⌝ }
 {
     if 32 <= n {
         return false;
     }
-    is_future(kinds[(48 * a + n) as usize])
+    is_future(kinds[(SLOTS * a + n) as usize])
 }
 
 // The `n` fields of the slot at `at`.
-fn fields(w: &[u32], at: usize, n: usize, a: u32, words: u32, kinds: &[u8; 192]) -> bool
+fn fields(w: &[u32], at: usize, n: usize, a: u32, words: u32, kinds: &[u8; STATE_SLOTS]) -> bool
     requires { ⌜ (at + slotSize ≤ length (now w)) × (words ≤ 64) ⌝ }
     ensures { λ r. ⌜ r ≡ fieldsAt (now (kinds .entry)) a words (now (w .entry)) n at ⌝ }
 {
@@ -89,7 +93,7 @@ fn object(
     refs: bool,
     a: u32,
     words: u32,
-    kinds: &[u8; 192],
+    kinds: &[u8; STATE_SLOTS],
 ) -> usize
     requires { ⌜ (at + slotSize ≤ length (now w)) × (words ≤ 64) × (length (now bodies) ≤ bodiesSize) × (b ≤ bodiesSize) ⌝ }
     ensures { λ r. ⌜ r ≡ objectEnd (now (kinds .entry)) a words (now (w .entry)) at b (methodsReach refs (now (kinds .entry)) a words (now (bodies .entry)) (getD (now (w .entry)) at 0 / digitsLimit % digitLimit) b) ⌝ }
@@ -139,7 +143,7 @@ fn open(w: &[u32], at: usize) -> bool
 }
 
 // A future with its value, which is no future.
-fn settled(w: &[u32], at: usize, a: u32, kinds: &[u8; 192]) -> bool
+fn settled(w: &[u32], at: usize, a: u32, kinds: &[u8; STATE_SLOTS]) -> bool
     requires { ⌜ at + slotSize ≤ length (now w) ⌝ }
     ensures { λ r. ⌜ r ≡ settledAt (now (kinds .entry)) a (now (w .entry)) at ⌝ }
 {
@@ -156,7 +160,7 @@ fn settled(w: &[u32], at: usize, a: u32, kinds: &[u8; 192]) -> bool
 }
 
 // A resolver of a future of this actor.
-fn resolver(w: &[u32], at: usize, a: u32, kinds: &[u8; 192]) -> bool
+fn resolver(w: &[u32], at: usize, a: u32, kinds: &[u8; STATE_SLOTS]) -> bool
     requires { ⌜ (at + slotSize ≤ length (now w)) × (a < 4) ⌝ }
     ensures { λ r. ⌜ r ≡ resolverAt (now (kinds .entry)) a (now (w .entry)) at ⌝ }
 {
@@ -188,7 +192,7 @@ fn made_slot(
     b: usize,
     a: u32,
     words: u32,
-    kinds: &[u8; 192],
+    kinds: &[u8; STATE_SLOTS],
 ) -> usize
     requires { ⌜ (at + slotSize ≤ length (now w)) × (words ≤ 64) × (a < 4) × (length (now bodies) ≤ bodiesSize) × (b ≤ bodiesSize) ⌝ }
     ensures { λ r. ⌜ r ≡ madeEnd (now (kinds .entry)) a words (now (w .entry)) (methodsReach true (now (kinds .entry)) a words (now (bodies .entry))) (methodsReach false (now (kinds .entry)) a words (now (bodies .entry))) n at b ⌝ }
@@ -215,7 +219,7 @@ fn copied_slot(
     b: usize,
     a: u32,
     words: u32,
-    kinds: &[u8; 192],
+    kinds: &[u8; STATE_SLOTS],
 ) -> usize
     requires { ⌜ (at + slotSize ≤ length (now w)) × (words ≤ 64) × (a < 4) × (length (now bodies) ≤ bodiesSize) × (b ≤ bodiesSize) ⌝ }
     ensures { λ r. ⌜ r ≡ copiedEnd (now (kinds .entry)) a words (now (w .entry)) (methodsReach true (now (kinds .entry)) a words (now (bodies .entry))) (methodsReach false (now (kinds .entry)) a words (now (bodies .entry))) n at b ⌝ }
@@ -239,7 +243,7 @@ pub fn made(
     b: usize,
     a: u32,
     words: u32,
-    kinds: &[u8; 192],
+    kinds: &[u8; STATE_SLOTS],
 ) -> usize
     requires { ⌜ (at + slotSize * k ≤ length (now w)) × (n + k ≤ 32) × (words ≤ 64) × (a < 4) × (length (now bodies) ≤ bodiesSize) × (b ≤ bodiesSize) ⌝ }
     ensures { λ r. ⌜ r ≡ slotsEnd (madeEnd (now (kinds .entry)) a words (now (w .entry)) (methodsReach true (now (kinds .entry)) a words (now (bodies .entry))) (methodsReach false (now (kinds .entry)) a words (now (bodies .entry)))) k n at b ⌝ }
@@ -270,7 +274,7 @@ pub fn copied(
     b: usize,
     a: u32,
     words: u32,
-    kinds: &[u8; 192],
+    kinds: &[u8; STATE_SLOTS],
 ) -> usize
     requires { ⌜ (at + slotSize * k ≤ length (now w)) × (n + k ≤ 32) × (words ≤ 64) × (a < 4) × (length (now bodies) ≤ bodiesSize) × (b ≤ bodiesSize) ⌝ }
     ensures { λ r. ⌜ r ≡ slotsEnd (copiedEnd (now (kinds .entry)) a words (now (w .entry)) (methodsReach true (now (kinds .entry)) a words (now (bodies .entry))) (methodsReach false (now (kinds .entry)) a words (now (bodies .entry)))) k n at b ⌝ }

@@ -1,5 +1,6 @@
 // Zeros, names and values at a position of a part.
 use layout::NAME_LIMIT;
+use layout::STATE_SLOTS;
 ghost use mathlib.Core.Path.{_≡_};
 ghost use Prim.Native.Nat.{_+_, _≤_};
 ghost use lib.ListN.{length};
@@ -20,7 +21,7 @@ pub fn zeros(w: &[u32], at: usize, n: usize) -> bool
 }
 
 // Whether the actor may hold the `n` values at `at`.
-pub fn values(w: &[u32], at: usize, n: usize, a: u32, kinds: &[u8; 192]) -> bool
+pub fn values(w: &[u32], at: usize, n: usize, a: u32, kinds: &[u8; STATE_SLOTS]) -> bool
     requires { ⌜ at + n ≤ length (now w) ⌝ }
     ensures { λ r. ⌜ r ≡ within (all (allowed (now (kinds .entry)) a)) (valuesAt (now (w .entry)) n at) ⌝ }
 {

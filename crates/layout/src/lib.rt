@@ -139,6 +139,11 @@ pub const SLOT: usize = 8;
 // Where a slot has the words of its methods.
 pub const SLOT_BODY: usize = 6;
 
+// The slots of both series in a part, and in the parts of a state.
+pub const SLOT_COUNT: usize = 32 + 16;
+
+pub const STATE_SLOTS: usize = 4 * SLOT_COUNT;
+
 pub const MADE_SIZE: usize = 32 * SLOT;
 
 pub const COPIED_SIZE: usize = 16 * SLOT;

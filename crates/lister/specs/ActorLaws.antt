@@ -8,7 +8,7 @@ use lib.ListN.{drop, getD}
 use lib.Seq.{getD-drop, drop-drop}
 use Rattle.atlite.specs.Base.{bytes}
 use Rattle.atlite.specs.Printer.{printNumber}
-use Rattle.layout.specs.Numbers.{payload, inboxAt, waitingAt, madeAt, copiedAt, bodiesAt, partSize, headSize}
+use Rattle.layout.specs.Numbers.{payload, exprAt, inboxAt, waitingAt, madeAt, copiedAt, bodiesAt, partSize, headSize}
 use Rattle.showing.specs.Writer.{most, Wrote, wrote-none, wrote-two}
 use Rattle.showing.specs.TextOfWords.{shown}
 use Rattle.lister.specs.TextOfState.{deep, inboxIn, slotsIn, spacedIn, titleIn, countsIn, exprIn, lineIn, entitiesIn, actorIn, actorsIn, listedIn}
@@ -42,7 +42,7 @@ module _ (old : List ℕ) (o : ℕ) where
           → Wrote m₂ q (exprIn t (drop (at + 16) t)) new r → Wrote old o (lineIn t a (drop at t)) new r
       unfolding lineIn
       line-whole m₁ m₂ new p q r e f g =
-          wrote-two old o _ _ m₁ new p r e (wrote-two m₁ p _ _ m₂ new q r f (rw (drop-drop 16 at t) g))
+          wrote-two old o _ _ m₁ new p r e (wrote-two m₁ p _ _ m₂ new q r f (rw (drop-drop exprAt at t) g))
 
       pub entities-whole : (mid new : List ℕ) (i j p k l r : ℕ)
           → Slotted t (slotsIn t a 0 (getD t (at + 1) 0 % 64) (drop (at + madeAt) t) (drop (at + bodiesAt) t) (drop (at + waitingAt) t)) old o mid i j p

@@ -9,7 +9,7 @@ use mir.Val.{Fits}
 use mir.Syntax.{w32}
 use Rattle.atlite.specs.State.{State}
 use Rattle.atlite.specs.Valid.{IsState}
-use Rattle.layout.specs.Numbers.{partSize, headSize, stateWords, wordSize}
+use Rattle.layout.specs.Numbers.{slotCount, stateSlots, partSize, headSize, stateWords, wordSize}
 use Rattle.layout.specs.Pack.{zeros}
 use Rattle.layout.specs.Layout.{encode}
 use Rattle.dictionary.specs.Entries.{entriesHold}
@@ -37,7 +37,7 @@ PartsHold K W a (suc n) p = IsPart K a W (take partSize p) × PartsHold K W (suc
 
 -- the table of kinds of the n parts that p begins with
 unfoldable pub kindsFor : ℕ → List ℕ → List ℕ
-kindsFor n p = rows n p ++ zeros (192 - 48 * n)
+kindsFor n p = rows n p ++ zeros (stateSlots - slotCount * n)
 
 -- all conditions
 pub record Holds (w : List ℕ) : Type 0 where

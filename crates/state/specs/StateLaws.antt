@@ -20,7 +20,7 @@ use Rattle.atlite.specs.ValidTest.{holdable}
 use Rattle.atlite.specs.Facts.{none-some, and₂, both₂}
 use Rattle.invariant.specs.Monotonicity.{actor-up}
 use Rattle.invariant.specs.Tests.{hold-to, hold-from}
-use Rattle.layout.specs.Numbers.{partSize, headSize, partsSize, tailSize, stateWords, wordSize}
+use Rattle.layout.specs.Numbers.{slotCount, stateSlots, partSize, headSize, partsSize, tailSize, stateWords, wordSize}
 use Rattle.layout.specs.Pack.{zeros, pad, flat}
 use Rattle.layout.specs.PackLaws.{Each, pad-front, length-zeros, length-flat}
 use Rattle.layout.specs.Layout.{encodeActor, encodeWord, encode}
@@ -182,7 +182,7 @@ module _ (w : List ℕ) (u : Words w) (h : HeadHolds w) where
         let few : length (A .list) ≤ 4 = omega (arith, h .actors) in
         let r : rows (getD w 0 0) (drop headSize w) ≡ flat rowOf (A .list) =
         ap₂ rows (sym n) (sym (A .words)) ∙ parts-rows (A .list) (drop (partSize * getD w 0 0) (drop headSize w)) (A .fit) in
-        let q : K ≡ flat rowOf (A .list) ++ zeros (192 - 48 * getD w 0 0) = is ∙ ap (λ l. l ++ zeros (192 - 48 * getD w 0 0)) r in
+        let q : K ≡ flat rowOf (A .list) ++ zeros (stateSlots - slotCount * getD w 0 0) = is ∙ ap (λ l. l ++ zeros (stateSlots - slotCount * getD w 0 0)) r in
         record {
           few = omega (arith, h .words);
           words = h .dictionary;
@@ -191,7 +191,7 @@ module _ (w : List ℕ) (u : Words w) (h : HeadHolds w) where
           actors = λ a B e.
               let z : 0 + a ≡ a = omega arith in
               let g : IsActor (getD w 1 0) (λ v. allowed K a v ≡ true) (futureBy K) a B = rw z at (A .hold a B e) in
-              rw m (by-state found (A .fit) few (192 - 48 * getD w 0 0) (getD w 1 0) K q a B g);
+              rw m (by-state found (A .fit) few (stateSlots - slotCount * getD w 0 0) (getD w 1 0) K q a B g);
         }
 
 pub holds-state : (w : List ℕ) → Words w → Holds w → AreState w
@@ -257,10 +257,10 @@ module _ (σ : State) (s : IsState σ) (w : List ℕ) (is : w ≡ encode σ) whe
   abbrev table : List ℕ
   table = kindsFor (getD w 0 0) (drop headSize w)
 
-  table-is : table ≡ flat rowOf (σ .actors) ++ zeros (192 - 48 * getD w 0 0)
+  table-is : table ≡ flat rowOf (σ .actors) ++ zeros (stateSlots - slotCount * getD w 0 0)
   unfolding kindsFor
   table-is =
-      ap (λ l. l ++ zeros (192 - 48 * getD w 0 0))
+      ap (λ l. l ++ zeros (stateSlots - slotCount * getD w 0 0))
       (ap₂ rows n0 (actors-at σ fits w is) ∙ parts-rows (σ .actors) behind (fits .actorsFit))
 
   parts-hold : PartsHold table (getD w 1 0) 0 (getD w 0 0) (drop headSize w)
@@ -269,7 +269,7 @@ module _ (σ : State) (s : IsState σ) (w : List ℕ) (is : w ≡ encode σ) whe
       let l = and₂ (leb (length (σ .actors)) 4) (all (withinActor full) (σ .actors)) (s .limits) in
       let h = actors-parts-hold table (length (σ .words)) 0 (σ .actors) behind (fits .actorsFit) (l .1) (λ i A e.
       let z : 0 + i ≡ i = omega arith in
-      rw z (by-kinds σ (fits .actorsFit) (fits .actorCount) (192 - 48 * getD w 0 0) (length (σ .words)) table table-is i A (s .actors i A e))) in
+      rw z (by-kinds σ (fits .actorsFit) (fits .actorCount) (stateSlots - slotCount * getD w 0 0) (length (σ .words)) table table-is i A (s .actors i A e))) in
       transp (λ p. PartsHold table (getD w 1 0) 0 (getD w 0 0) p) (sym (actors-at σ fits w is))
       (transp (λ n. PartsHold table (getD w 1 0) 0 n (flat encodeActor (σ .actors) ++ behind)) (sym n0)
       (transp (λ n. PartsHold table n 0 (length (σ .actors)) (flat encodeActor (σ .actors) ++ behind)) (sym n1) h))

@@ -17,6 +17,7 @@ use atlite::Listed;
 use layout::HEAD;
 use layout::PART;
 use layout::STATE;
+use layout::STATE_SLOTS;
 
 fn wide(n: u32) -> usize
     ensures { λ r. ⌜ r ≡ n ⌝ }
@@ -51,7 +52,7 @@ fn is_head(w: &[u32]) -> bool
 }
 
 // Whether the `left` parts at `at` are those of the actors from `a` on, in a state with `k` words.
-fn are_parts(w: &[u32], at: usize, a: u32, left: usize, k: u32, kinds: &[u8; 192]) -> bool
+fn are_parts(w: &[u32], at: usize, a: u32, left: usize, k: u32, kinds: &[u8; STATE_SLOTS]) -> bool
     requires { ⌜ (at + partSize * left ≤ length (now w)) × (a + left ≤ 4) × (k ≤ 64) ⌝ }
     ensures { λ r. ⌜ Decides (PartsHold (now (kinds .entry)) k a left (drop at (now (w .entry)))) r ⌝ }
 {
@@ -72,7 +73,7 @@ fn are_actors(w: &[u32]) -> bool
 {
     let n = wide(w[0]);
     let k = w[1];
-    let mut kinds = [0u8; 192];
+    let mut kinds = [0u8; STATE_SLOTS];
     if entity_kinds::fill_kinds(w, n, &mut kinds) {
         return are_parts(w, HEAD, 0, n, k, &kinds);
     }

@@ -8,11 +8,12 @@ use mathlib.Core.List.{List}
 use lib.ListN.{getD}
 use lib.Dec.{eqb, leb, ltb}
 use Rattle.atlite.specs.Term.{top, Series, made, copied, Value, null, num, ref}
+use Rattle.layout.specs.Numbers.{slotCount}
 
 -- the kind of the n-th entity of a series of the actor b
 unfoldable pub kindAt : List ℕ → ℕ → Series → ℕ → ℕ
-kindAt K b made n = cond (ltb b 4 && ltb n 32) (getD K (48 * b + n) 0) 0
-kindAt K b copied n = cond (ltb b 4 && ltb n 16) (getD K (48 * b + (32 + n)) 0) 0
+kindAt K b made n = cond (ltb b 4 && ltb n 32) (getD K (slotCount * b + n) 0) 0
+kindAt K b copied n = cond (ltb b 4 && ltb n 16) (getD K (slotCount * b + (32 + n)) 0) 0
 
 -- the kind of what a value names
 unfoldable pub kindOf : List ℕ → Value → ℕ

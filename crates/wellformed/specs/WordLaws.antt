@@ -13,7 +13,7 @@ use Rattle.atlite.specs.Term.{Series, made, copied, null, num, Name, plain, two
 use Rattle.atlite.specs.declared.MadeNo.{MadeNo}
 use Rattle.atlite.specs.declared.CopyNo.{CopyNo}
 use Rattle.atlite.specs.Valid.{isName, isVariable, sendable, callable, unreferring}
-use Rattle.layout.specs.Numbers.{payload, nameLimit, noName, tagLimit, numberLimit}
+use Rattle.layout.specs.Numbers.{payload, nameLimit, noName, tagLimit, numberLimit, slotCount}
 use Rattle.layout.specs.Parse.{valueIn, valueAt, nameOf}
 use Rattle.layout.specs.TermReading.{seriesIn, refIn}
 use Rattle.heap.specs.declared.EntityNo.{EntityNo}
@@ -77,7 +77,7 @@ module _ (K : List ℕ) (q : ℕ) where
       unfolding seriesOf numberOf
       its-made = named made (n .0) (ap seriesOf h) (ap numberOf h)
 
-      pub kind-made : n .0 < 32 → getD K (48 * (q / numberLimit / 2) + n .0) 0 ≡ kindOf K (refIn q)
+      pub kind-made : n .0 < 32 → getD K (slotCount * (q / numberLimit / 2) + n .0) 0 ≡ kindOf K (refIn q)
       unfolding kindAt
       kind-made l = rw (lt-ltb (q / numberLimit / 2) 4 b, lt-ltb (n .0) 32 l) at its-made
 
@@ -90,7 +90,7 @@ module _ (K : List ℕ) (q : ℕ) where
       unfolding seriesOf numberOf
       its-copied = named copied (n .0) (ap seriesOf h) (ap numberOf h)
 
-      pub kind-copied : n .0 < 16 → getD K (48 * (q / numberLimit / 2) + (32 + n .0)) 0 ≡ kindOf K (refIn q)
+      pub kind-copied : n .0 < 16 → getD K (slotCount * (q / numberLimit / 2) + (32 + n .0)) 0 ≡ kindOf K (refIn q)
       unfolding kindAt
       kind-copied l = rw (lt-ltb (q / numberLimit / 2) 4 b, lt-ltb (n .0) 16 l) at its-copied
 

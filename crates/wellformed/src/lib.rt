@@ -16,6 +16,7 @@ ghost use Rattle.wellformed.specs.Ends.{endOf, methodsHold};
 use crate::term::Context;
 use layout::NAME_LIMIT;
 use layout::PAYLOAD;
+use layout::STATE_SLOTS;
 
 pub mod header;
 pub mod scopes;
@@ -26,7 +27,7 @@ pub mod word;
 pub const FAIL: usize = 4096;
 
 // Whether the word `x` is a value that may be held: by the actor, or, without `refs`, by an isolate.
-pub fn value(x: u32, kinds: &[u8; 192], actor: u32, refs: bool) -> bool
+pub fn value(x: u32, kinds: &[u8; STATE_SLOTS], actor: u32, refs: bool) -> bool
     ensures { λ r. ⌜ r ≡ within (holds refs (now (kinds .entry)) actor) (valueAt x) ⌝ }
 {
     let q = x % PAYLOAD;
@@ -63,7 +64,7 @@ pub fn message_name(h: u32, words: u32) -> bool
 // variable is bound, the names in one literal differ, and references name what is there, isolates only the actor's own. So it is not
 // answered that an isolate's method may use a word bound around the isolate, nor that an isolate's or an actor's literal may refer. What
 // stands behind the expression is not looked at.
-pub fn expression(w: &[u32], kinds: &[u8; 192], actor: u32, words: u32) -> usize
+pub fn expression(w: &[u32], kinds: &[u8; STATE_SLOTS], actor: u32, words: u32) -> usize
     requires { ⌜ (length (now w) ≤ bodiesSize) × (words ≤ 64) ⌝ }
     ensures { λ r. ⌜ r ≡ endOf (wellFormed words (allowed (now (kinds .entry)) actor) []) (parse (now (w .entry)) 0) ⌝ }
     ensures { λ r. ⌜ r ≤ 4096 ⌝ }
@@ -84,7 +85,7 @@ pub fn methods(
     w: &[u32],
     at: usize,
     count: usize,
-    kinds: &[u8; 192],
+    kinds: &[u8; STATE_SLOTS],
     actor: u32,
     words: u32,
     refs: bool,

@@ -14,6 +14,7 @@ use layout::NAME_LIMIT;
 use layout::NO_NAME;
 use layout::PAIR_LIMIT;
 use layout::PAYLOAD;
+use layout::STATE_SLOTS;
 use layout::TAGGED_LIMIT;
 use layout::kinds as table;
 
@@ -32,7 +33,7 @@ const AFTER_TWO: u32 = NO_NAME * PAIR_LIMIT;
 const OPERANDS: u32 = 7 * PAYLOAD;
 
 // Whether the word `h` is a variable in scope, or a value.
-fn leaf(h: u32, scope: &[u16; 128], kinds: &[u8; 192], e: Context) -> bool
+fn leaf(h: u32, scope: &[u16; 128], kinds: &[u8; STATE_SLOTS], e: Context) -> bool
     requires { ⌜ h < 7 * payload ⌝ }
     ensures { λ r. ⌜ Leaf (e .words) (holds (e .refs) (now (kinds .entry)) (e .actor)) (now (scope .entry)) (e .level) h r ⌝ }
 {
@@ -81,7 +82,13 @@ fn operands(h: u32, words: u32) -> usize
 
 // The end of the term at `at`. One word a turn, and its operands are among the terms still to come. Only a word that changes the scope is
 // read by a call; where that fails it answers 4096, and the next turn finds no word there.
-pub fn term(w: &[u32], at: usize, scope: &mut [u16; 128], kinds: &[u8; 192], e: Context) -> usize
+pub fn term(
+    w: &[u32],
+    at: usize,
+    scope: &mut [u16; 128],
+    kinds: &[u8; STATE_SLOTS],
+    e: Context,
+) -> usize
     requires { ⌜ (length (now w) ≤ bodiesSize) × (at ≤ 4096) × (e .words ≤ 64) × (e .level ≤ at + 1) ⌝ }
     ensures { λ r. ⌜ TermEnds (e .words) (holds (e .refs) (now (kinds .entry)) (e .actor)) (now (scope .entry)) (e .level) (now (w .entry)) at r ⌝ }
     ensures { λ r. ⌜ Kept (now (scope .entry)) (now (scope .exit)) ⌝ }
@@ -120,7 +127,7 @@ fn form(
     at: usize,
     h: u32,
     scope: &mut [u16; 128],
-    kinds: &[u8; 192],
+    kinds: &[u8; STATE_SLOTS],
     e: Context,
 ) -> usize
     requires { ⌜ (length (now w) ≤ bodiesSize) × (at ≤ 4096) × (e .words ≤ 64) × (e .level ≤ at) ⌝ }
@@ -146,7 +153,7 @@ fn inside(
     at: usize,
     names: u32,
     scope: &mut [u16; 128],
-    kinds: &[u8; 192],
+    kinds: &[u8; STATE_SLOTS],
     e: Context,
 ) -> usize
     requires { ⌜ (length (now w) ≤ bodiesSize) × (at ≤ 4096) × (e .words ≤ 64) × (e .level ≤ at + 1) ⌝ }
@@ -166,7 +173,7 @@ fn let_in(
     at: usize,
     x: u32,
     scope: &mut [u16; 128],
-    kinds: &[u8; 192],
+    kinds: &[u8; STATE_SLOTS],
     e: Context,
 ) -> usize
     requires { ⌜ (length (now w) ≤ bodiesSize) × (at ≤ 4096) × (e .words ≤ 64) × (e .level ≤ at + 1) ⌝ }
@@ -190,7 +197,7 @@ fn future(
     at: usize,
     p: u32,
     scope: &mut [u16; 128],
-    kinds: &[u8; 192],
+    kinds: &[u8; STATE_SLOTS],
     e: Context,
 ) -> usize
     requires { ⌜ (length (now w) ≤ bodiesSize) × (at ≤ 4096) × (e .words ≤ 64) × (e .level ≤ at + 1) × (p < payload) ⌝ }
@@ -210,7 +217,7 @@ fn literal(
     at: usize,
     h: u32,
     scope: &mut [u16; 128],
-    kinds: &[u8; 192],
+    kinds: &[u8; STATE_SLOTS],
     e: Context,
 ) -> usize
     requires { ⌜ (length (now w) ≤ bodiesSize) × (at ≤ 4096) × (e .words ≤ 64) × (e .level ≤ at) ⌝ }
@@ -246,7 +253,7 @@ fn fields_from(
     n: usize,
     names: u32,
     scope: &mut [u16; 128],
-    kinds: &[u8; 192],
+    kinds: &[u8; STATE_SLOTS],
     e: Context,
 ) -> usize
     requires { ⌜ (length (now w) ≤ bodiesSize) × (at ≤ 4096) × (e .words ≤ 64) × (e .level ≤ at + 1) × (n ≤ 8) ⌝ }
@@ -283,7 +290,7 @@ pub fn methods_from(
     n: usize,
     names: u32,
     scope: &mut [u16; 128],
-    kinds: &[u8; 192],
+    kinds: &[u8; STATE_SLOTS],
     e: Context,
 ) -> usize
     requires { ⌜ (length (now w) ≤ bodiesSize) × (at ≤ 4096) × (e .words ≤ 64) × (e .level ≤ at + 1) × (n ≤ 8) ⌝ }

@@ -12,6 +12,10 @@ use heap::EntityNo;
 use layout::NAME_LIMIT;
 use layout::NUMBER_LIMIT;
 use layout::PAYLOAD;
+use layout::STATE_SLOTS;
+
+// The slots of a part, as words count them.
+const SLOTS: u32 = layout::SLOT_COUNT as u32;
 
 // The name of a field or a method.
 pub fn is_name(x: u32, words: u32) -> bool
@@ -42,7 +46,7 @@ pub fn is_variable(x: u32, words: u32) -> bool
 }
 
 // The kind of what the payload `q` of a reference names, or 0.
-pub fn kind_of(q: u32, kinds: &[u8; 192]) -> u8
+pub fn kind_of(q: u32, kinds: &[u8; STATE_SLOTS]) -> u8
     ensures { λ r. ⌜ r ≡ kindOf (now (kinds .entry)) (refIn q) ⌝ }
 {
     let b = q / NUMBER_LIMIT / 2;
@@ -52,13 +56,13 @@ pub fn kind_of(q: u32, kinds: &[u8; 192]) -> u8
     match heap::entity_no(q) {
         EntityNo::Made(n) => {
             if n.0 < 32 {
-                return kinds[(48 * b + n.0 as u32) as usize];
+                return kinds[(SLOTS * b + n.0 as u32) as usize];
             }
             0
         }
         EntityNo::Copied(n) => {
             if n.0 < 16 {
-                return kinds[(48 * b + (32 + n.0 as u32)) as usize];
+                return kinds[(SLOTS * b + (32 + n.0 as u32)) as usize];
             }
             0
         }
@@ -66,7 +70,7 @@ pub fn kind_of(q: u32, kinds: &[u8; 192]) -> u8
 }
 
 // Whether the actor may hold the reference of payload `q`: an isolate only if it is its own.
-pub fn reference(q: u32, kinds: &[u8; 192], actor: u32) -> bool
+pub fn reference(q: u32, kinds: &[u8; STATE_SLOTS], actor: u32) -> bool
     ensures { λ r. ⌜ r ≡ allowed (now (kinds .entry)) actor (refIn q) ⌝ }
 {
     let k = kind_of(q, kinds);
