@@ -21,7 +21,7 @@ use Rattle.layout.specs.TableReads.{variable-named}
 use Rattle.layout.specs.Terms.{opKind, opNode, countMethods as countBodies, variable, tagged, asked, kindNumber, fieldHeader, methodHeader, encodeTerm, encodeTerms, encodeInits, encodeMethods, encodeValue, countInits, nullWord, binding, objectWord, sendRegister}
 use Rattle.layout.specs.Tables.{encodeSrc, encodeSrcs, encodeFields, encodeSrcMethods}
 use Rattle.layout.specs.TermReads.{label-small}
-use Rattle.layout.specs.Kinds.{op-kind}
+use Rattle.layout.specs.Kinds.{op-kind, kind-range}
 use Rattle.layout.specs.Parse.{unary, binary, many, parts}
 use Rattle.layout.specs.ParseHeads.{head-op, head-let, head-future, head-literal}
 use Rattle.layout.specs.Arity.{head-wants}
@@ -118,12 +118,6 @@ module _ (s : Self) where
   kept-words : (o : Op ℕ) (es : Srcs) → opNode (written o) (countSrcs es) ∷ encodeTerms (expandAllWith es s) ≡ encodeTerm (op (written o) (expandAllWith es s))
   unfolding encodeTerm
   kept-words o es = rw (all-count es s)
-
-kind-range : (k : Kind) → (15 ≤ kindNumber k) × (kindNumber k < 18)
-unfolding kindNumber
-kind-range Kind.object = (omega arith, omega arith)
-kind-range Kind.isolate = (omega arith, omega arith)
-kind-range Kind.actor = (omega arith, omega arith)
 
 method-high : (m : ℕ) (xs : List ℕ) → 192 ≤ methodHeader m xs / payload
 unfolding methodHeader
