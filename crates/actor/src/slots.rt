@@ -22,9 +22,6 @@ use layout::SLOT_BODY;
 use layout::SLOT_UNIT;
 use layout::STATE_SLOTS;
 
-// The slots of a part, as words count them.
-const SLOTS: u32 = layout::SLOT_COUNT as u32;
-
 // The answer where no entity is.
 const FAIL: usize = 4096;
 
@@ -57,7 +54,7 @@ fn own_future(n: u32, a: u32, kinds: &[u8; STATE_SLOTS]) -> bool
     if 32 <= n {
         return false;
     }
-    is_future(kinds[(SLOTS * a + n) as usize])
+    is_future(kinds[(wellformed::word::SLOTS * a + n) as usize])
 }
 
 // The `n` fields of the slot at `at`.

@@ -14,8 +14,8 @@ use layout::NUMBER_LIMIT;
 use layout::PAYLOAD;
 use layout::STATE_SLOTS;
 
-// The slots of a part, as words count them.
-const SLOTS: u32 = layout::SLOT_COUNT as u32;
+// The slots of a part, as words count them: so many kinds a table has for an actor.
+pub const SLOTS: u32 = layout::SLOT_COUNT as u32;
 
 // The name of a field or a method.
 pub fn is_name(x: u32, words: u32) -> bool
