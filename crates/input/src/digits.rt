@@ -1,9 +1,12 @@
 // Numbers in the records that test programs go through: so many digits, of which one that is none counts as 0.
+ghost use mathlib.Core.Path.{_≡_};
 ghost use Prim.Native.Nat.{_+_, _≤_};
 ghost use lib.ListN.{length};
+ghost use Rattle.input.specs.Digits.{digitOf, twoAt, fiveAt};
 
 // The digit `b`.
 pub fn digit(b: u8) -> usize
+    ensures { λ r. ⌜ r ≡ digitOf b ⌝ }
     ensures { λ r. ⌜ r ≤ 9 ⌝ }
 {
     if b < b'0' {
@@ -18,6 +21,7 @@ pub fn digit(b: u8) -> usize
 // The number of two digits at `at`.
 pub fn two(bytes: &[u8], at: usize) -> usize
     requires { ⌜ at + 2 ≤ length (now bytes) ⌝ }
+    ensures { λ r. ⌜ r ≡ twoAt (now (bytes .entry)) at ⌝ }
     ensures { λ r. ⌜ r ≤ 99 ⌝ }
 {
     digit(bytes[at]) * 10 + digit(bytes[at + 1])
@@ -26,6 +30,7 @@ pub fn two(bytes: &[u8], at: usize) -> usize
 // The number of five digits at `at`.
 pub fn five(bytes: &[u8], at: usize) -> usize
     requires { ⌜ at + 5 ≤ length (now bytes) ⌝ }
+    ensures { λ r. ⌜ r ≡ fiveAt (now (bytes .entry)) at ⌝ }
     ensures { λ r. ⌜ r ≤ 99999 ⌝ }
 {
     let high = two(bytes, at) * 1000;

@@ -18,6 +18,8 @@ fn main() {
     let r = input::read_all(0, &mut bytes);
     match r {
         Input::Bytes(n) => answer(&bytes[..n]),
-        Input::Unread => input::tell_unread(),
+        Input::Unread => {
+            io::write_all(1, &input::UNREAD);
+        }
     }
 }

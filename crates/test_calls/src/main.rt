@@ -15,7 +15,9 @@ fn with_scripts(script: &[u8]) {
             lists::both(script);
             buffers::all(script, &large[..n]);
         }
-        Input::Unread => input::tell_unread(),
+        Input::Unread => {
+            io::write_all(1, &input::UNREAD);
+        }
     }
 }
 
@@ -24,6 +26,8 @@ fn main() {
     let r = input::read_file(b"script", &mut script);
     match r {
         Input::Bytes(n) => with_scripts(&script[..n]),
-        Input::Unread => input::tell_unread(),
+        Input::Unread => {
+            io::write_all(1, &input::UNREAD);
+        }
     }
 }

@@ -267,7 +267,7 @@ fn group(name: &[u8], before: Tally) -> Tally
     match r {
         Input::Bytes(n) => make_moves(name, &data[..n], before),
         Input::Unread => {
-            input::tell_unread();
+            io::write_all(1, &input::UNREAD);
             Tally {
                 all: before.all + 1,
                 agreed: before.agreed,

@@ -52,6 +52,8 @@ fn main() {
     let r = input::read_all(0, &mut text);
     match r {
         Input::Bytes(n) => reprint(&text[..n]),
-        Input::Unread => input::tell_unread(),
+        Input::Unread => {
+            io::write_all(1, &input::UNREAD);
+        }
     }
 }

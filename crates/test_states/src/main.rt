@@ -83,6 +83,8 @@ fn main() {
     let r = input::read_file(b"states", &mut data);
     match r {
         Input::Bytes(n) => go_through(&data[..n], &mut words),
-        Input::Unread => input::tell_unread(),
+        Input::Unread => {
+            io::write_all(1, &input::UNREAD);
+        }
     }
 }

@@ -110,6 +110,8 @@ fn main() {
     let r = input::read_file(b"texts", &mut data);
     match r {
         Input::Bytes(n) => report(&data[..n]),
-        Input::Unread => input::tell_unread(),
+        Input::Unread => {
+            io::write_all(1, &input::UNREAD);
+        }
     }
 }

@@ -115,7 +115,9 @@ fn go_through(program: Program, fd: i32, left: u64, agreed: u64)
         Came::Agreed => go_through(program, fd, left - 1, agreed + 1),
         Came::Differed => go_through(program, fd, left - 1, agreed),
         Came::Ended => tell(agreed, RECORDS - left),
-        Came::Unread => input::tell_unread(),
+        Came::Unread => {
+            io::write_all(1, &input::UNREAD);
+        }
     }
 }
 

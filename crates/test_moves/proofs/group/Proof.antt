@@ -16,7 +16,8 @@ group-spec =
     (λ c. search counted)  -- slice-aggregate-make-moves
     (λ c κs. search counted)  -- make-moves-requires
     (λ c. search needs)  -- enum-told
-    (λ c κs. search needs)  -- tell-unread-requires
+    (λ c. search needs)  -- slice-aggregate-write-all
+    (λ c κs. search needs)  -- write-all-requires
     (λ c. search needs)  -- add-t13
     (λ c. search needs)  -- returns
     (λ c. search needs)  -- returns-2

@@ -17,7 +17,8 @@ main-spec =
     (λ c. search counted)  -- slice-aggregate-report
     (λ c κs. search counted)  -- report-requires
     (λ c. search needs)  -- enum-told
-    (λ c κs. search needs)  -- tell-unread-requires
+    (λ c. search needs)  -- slice-aggregate-write-all
+    (λ c κs. search needs)  -- write-all-requires
     (λ c. search needs)  -- returns
     (λ c. search needs)  -- returns-2
     )

@@ -8,7 +8,7 @@ use Rattle.test_vectors.proofs.go_through.Kinds as go-through-kinds
 use Rattle.test_vectors.proofs.+go_through.Lts-go_through as go-through-lts
 use Rattle.test_vectors.proofs.next.Reads as next-reads
 use Rattle.test_vectors.proofs.tell.Reads as tell-reads
-use Rattle.input.proofs.tell_unread.Reads as tell-unread-reads
+use Rattle.io.proofs.write_all.Reads as write-all-reads
 use Rattle.test_vectors.proofs.+go_through.{statement}
 use Rattle.test_vectors.proofs.+go_through.Tie.{close}
 
@@ -31,8 +31,8 @@ pub +go-through-spec : {M : Type 1} → statement M
   next-reads.Learnt,
   go-through-below t,
   go-through.Post,
-  tell-unread-reads.Asked,
-  tell-unread-reads.Learnt,
+  write-all-reads.Asked,
+  write-all-reads.Learnt,
 )
     (go-through-at t)
     go-through.Post
@@ -50,7 +50,8 @@ pub +go-through-spec : {M : Type 1} → statement M
     (λ c. search needs)  -- go-through-sub-tell
     (λ c κs. search needs)  -- go-through-tell-requires-2
     (λ c. search needs)  -- go-through-enum-told-4
-    (λ c κs. search needs)  -- go-through-tell-unread-requires
+    (λ c. search needs)  -- go-through-slice-aggregate-write-all
+    (λ c κs. search needs)  -- go-through-write-all-requires
     (λ c. search needs)  -- go-through-returns-2
     (λ c. search needs)  -- go-through-returns-3
     (λ c. search needs)  -- go-through-returns-4
