@@ -2,12 +2,14 @@
 use Prim.Native.Nat.{ℕ}
 use mathlib.Core.List.{List, [], _∷_, _++_, map}
 use Rattle.atlite.specs.Base.{bytes}
-use Rattle.atlite.specs.Term.{this, Op, plus, percent, get, set, call, send, written, Kind}
+use Rattle.atlite.specs.Term.{this, Op, plus, percent, same, choose, get, set, call, send, written, Kind}
 use Rattle.atlite.specs.Script.{SrcOp, kept, ask, resolve, seq}
 
 unfoldable pub opWord : {N : Type 0} → Op N → List ℕ
 opWord plus = bytes "plus"
 opWord percent = bytes "percent"
+opWord same = bytes "same"
+opWord choose = bytes "if"
 opWord (get f) = bytes "get"
 opWord (set f) = bytes "set"
 opWord (call m) = bytes "call"
@@ -59,12 +61,13 @@ pub data Operator : Type 0 where
   letIn future fn when : Operator
   literal : Kind → Operator
 
--- the operators, in the grammar's order
+-- the operators, in the grammar's order, and then those that requests brought
 unfoldable pub operators : List Operator
 operators =
     bare (kept plus) ∷ bare (kept percent) ∷ naming (λ f. kept (get f)) ∷ naming (λ f. kept (set f)) ∷ naming (λ m. kept (call m))
     ∷ naming (λ m. kept (send m)) ∷ naming ask ∷ letIn ∷ future ∷ fn ∷ bare resolve ∷ when ∷ bare seq
-    ∷ literal Kind.object ∷ literal Kind.isolate ∷ literal Kind.actor ∷ []
+    ∷ literal Kind.object ∷ literal Kind.isolate ∷ literal Kind.actor
+    ∷ bare (kept choose) ∷ bare (kept same) ∷ []
 
 -- an operator's word, whatever it names
 unfoldable pub spelling : Operator → List ℕ

@@ -8,11 +8,11 @@ use mathlib.Core.Option.{Option, none, some}
 use lib.ListN.{getElem?}
 use lib.Dec.{eqb, leb}
 use Rattle.atlite.specs.Base.{Result, done, refused, _>>=_, _>>_, orRefuse, require, if_then_else_}
-use Rattle.atlite.specs.Term.{made, Series, Value, null, num, ref, Name, plain, twoWay, resolve, register, Kind, isolate, actor, Op, plus, percent, get, set, call, send, Term, val, var, op, letIn, literal, Inits, Methods, noMethod, method, valuesOf, isValue}
+use Rattle.atlite.specs.Term.{made, Series, Value, null, num, ref, Name, plain, twoWay, resolve, register, Kind, isolate, actor, Op, plus, percent, choose, get, set, call, send, Term, val, var, op, letIn, literal, Terms, nil, cons, Inits, Methods, noMethod, method, valuesOf, isValue}
 use Rattle.atlite.specs.State.{Message, message, Entity, object, future, resolver, Actor, State, withInbox, fieldOf}
 use Rattle.atlite.specs.Outcome.{Copy, entity, own, namesFuture}
 use Rattle.atlite.specs.Passing.{meet, reach, heldValues, isolatesFor}
-use Rattle.atlite.specs.Rules.{oneOf, pairOf, receiverOf, asNumber, number, plusRule, percentRule, makeRule, newRule, fieldsOf, getRule, setRule, methodsOf, invoke, callRule, futureRule, ownerlessRule, sendRule, resolves, openFuture, resolveRule, callByName, operate, rule}
+use Rattle.atlite.specs.Rules.{oneOf, pairOf, receiverOf, asNumber, number, plusRule, percentRule, sameRule, choice, chooseRule, makeRule, newRule, fieldsOf, getRule, setRule, methodsOf, invoke, callRule, futureRule, ownerlessRule, sendRule, resolves, openFuture, resolveRule, callByName, operate, rule}
 use Rattle.atlite.specs.Redex.{redex}
 use Rattle.atlite.specs.Move.{takeTo, takeFrom, takeRule, turn, free, limited, moveWithin, move}
 
@@ -173,20 +173,30 @@ name-caused s a A v (twoWay m) vs = stopped refl
 name-caused s a A v resolve vs = resolve-caused s a A v vs
 name-caused s a A v register vs = stopped refl
 
-operate-caused : (s : List Actor) (a : ℕ) (A : Actor) (o : Op Name) (vs : List Value) → Caused (operate s a A o vs)
-unfolding operate plusRule percentRule
-operate-caused s a A plus vs = next (pair-caused vs) λ p. next (as-number-caused (p .0)) λ m. next (as-number-caused (p .1)) λ n. number-caused A (m + n)
-operate-caused s a A percent vs = next (pair-caused vs) λ p. next (as-number-caused (p .0)) λ m. next (as-number-caused (p .1)) λ n. number-caused A (m * n / 100)
-operate-caused s a A (get f) vs = next (one-caused vs) λ v. get-caused a A v f
-operate-caused s a A (set f) vs = next (pair-caused vs) λ p. set-caused a A (p .0) f (p .1)
-operate-caused s a A (call m) vs = next (receiver-caused vs) λ p. name-caused s a A (p .0) m (p .1)
-operate-caused s a A (send m) vs = next (receiver-caused vs) λ p. send-caused s a A (p .0) m (p .1)
+choice-caused : (es : Terms) → Caused (choice es)
+unfolding choice
+choice-caused nil = stopped refl
+choice-caused (cons c nil) = stopped refl
+choice-caused (cons c (cons d nil)) = stopped refl
+choice-caused (cons c (cons d (cons e nil))) = fine
+choice-caused (cons c (cons d (cons e (cons x es)))) = stopped refl
+
+operate-caused : (s : List Actor) (a : ℕ) (A : Actor) (o : Op Name) (vs : List Value) (es : Terms) → Caused (operate s a A o vs es)
+unfolding operate plusRule percentRule sameRule chooseRule
+operate-caused s a A plus vs es = next (pair-caused vs) λ p. next (as-number-caused (p .0)) λ m. next (as-number-caused (p .1)) λ n. number-caused A (m + n)
+operate-caused s a A percent vs es = next (pair-caused vs) λ p. next (as-number-caused (p .0)) λ m. next (as-number-caused (p .1)) λ n. number-caused A (m * n / 100)
+operate-caused s a A Op.same vs es = next (pair-caused vs) λ p. number-caused A _
+operate-caused s a A choose vs es = next (choice-caused es) λ e. fine
+operate-caused s a A (get f) vs es = next (one-caused vs) λ v. get-caused a A v f
+operate-caused s a A (set f) vs es = next (pair-caused vs) λ p. set-caused a A (p .0) f (p .1)
+operate-caused s a A (call m) vs es = next (receiver-caused vs) λ p. name-caused s a A (p .0) m (p .1)
+operate-caused s a A (send m) vs es = next (receiver-caused vs) λ p. send-caused s a A (p .0) m (p .1)
 
 rule-caused : (s : List Actor) (a : ℕ) (A : Actor) (e : Term) → Caused (rule s a A e)
 unfolding rule futureRule
 rule-caused s a A (val v) = stopped refl
 rule-caused s a A (var x) = stopped refl
-rule-caused s a A (op o es) = operate-caused s a A o (valuesOf es)
+rule-caused s a A (op o es) = operate-caused s a A o (valuesOf es) es
 rule-caused s a A (letIn x e d) = fine
 rule-caused s a A (Term.future x y e) = fine
 rule-caused s a A (literal k fs ms) = new-caused s a A k fs ms

@@ -1,8 +1,8 @@
 -- Request P1, null as a reply: the listener of a .register to null is sent null. A move that was made before is made as before, and what was
 -- refused before is refused as before, but for that .register, which was refused with 10. Assumes nothing.
 --
--- The rule of send as it was stands here once more. A move is stated by any rule of send: by the present one it is the present move, by the
--- former one it is the move as it was.
+-- The rule of send as it was stands here once more. A rule is stated by any rule of send: by the present one it is the present rule, by the
+-- former one it is the rule as it was.
 use Prim.Native.Nat.{ℕ}
 use mathlib.Core.Path.{_≡_, refl, sym, ap, _∙_, subst as transp}
 use mathlib.Core.Bool.{Bool, true, false}
@@ -12,16 +12,18 @@ use lib.ListN.{length, getElem?}
 use lib.Dec.{ltb}
 use Rattle.atlite.specs.Base.{Result, done, refused, _>>=_, _>>_, orRefuse, require, if_then_else_}
 use Rattle.atlite.specs.Facts.{refused-done}
-use Rattle.atlite.specs.Term.{Value, null, num, ref, Name, plain, twoWay, resolve, register, Op, plus, percent, get, set, call, send, Term, val, var, op, letIn, future, literal, Terms, valuesOf, isValue}
+use Rattle.atlite.specs.Term.{Value, null, num, ref, Name, plain, twoWay, resolve, register, Op, send, Shape, exactly, onField, calling, sending, shape, Term, val, var, op, letIn, future, literal, Terms, valuesOf, isValue}
 use Rattle.atlite.specs.State.{message, Actor, State}
 use Rattle.atlite.specs.Redex.{redex}
 use Rattle.atlite.specs.Outcome.{inner, sends, Outcome, becomes}
 use Rattle.atlite.specs.Passing.{isolatesFor}
 use Rattle.atlite.specs.Rules.{sendApply, forward, ownerlessRule, sendRule, receiverOf, operate, rule}
 use Rattle.atlite.specs.Limits.{Bounds, full}
-use Rattle.atlite.specs.Move.{takeRule, turn, free, Answer, Moved, limited, moveWithin, move}
+use Rattle.atlite.specs.Move.{takeRule, Answer, Moved, limited, moveWithin, move}
+use Rattle.layout.specs.Kinds.{Row, isBare, isField, isCall, isSend, row}
 use Rattle.layout.specs.Layout.{encode}
 use Rattle.layout.specs.Meaning.{Reply, answered, lent, moveCall}
+use Rattle.changes.specs.MoveBy.{turnBy, moveBy, moveCallBy, move-agrees, move-now}
 
 -- ---- what null takes
 -- the listener that a .register brings to it is sent null, in one move inside the expression
@@ -37,41 +39,27 @@ null-refuses s a A (twoWay m) es vs e h = rw e
 null-refuses s a A resolve es vs e h = rw e
 null-refuses s a A register es vs e h = absurd (h refl)
 
--- ---- a move by a rule of send
+-- ---- a rule by a rule of send
 abbrev pub SendRule : Type 0
 SendRule = List Actor → ℕ → Actor → Value → Name → List Value → Result Outcome
 
-unfoldable pub operateBy : SendRule → List Actor → ℕ → Actor → Op Name → List Value → Result Outcome
-operateBy S s a A plus vs = operate s a A plus vs
-operateBy S s a A percent vs = operate s a A percent vs
-operateBy S s a A (get f) vs = operate s a A (get f) vs
-operateBy S s a A (set f) vs = operate s a A (set f) vs
-operateBy S s a A (call m) vs = operate s a A (call m) vs
-operateBy S s a A (send m) vs = receiverOf vs >>= λ (v, us). S s a A v m us
+-- f of the name where an operator of the shape sends, x for all others
+unfoldable pub bySend : {X : Type 0} → Shape Name → (Name → X) → X → X
+bySend (exactly k) f x = x
+bySend (onField n k) f x = x
+bySend (calling m) f x = x
+bySend (sending m) f x = f m
+
+unfoldable pub operateBy : SendRule → List Actor → ℕ → Actor → Op Name → List Value → Terms → Result Outcome
+operateBy S s a A o vs es = bySend (shape o) (λ m. receiverOf vs >>= λ (v, us). S s a A v m us) (operate s a A o vs es)
 
 unfoldable pub ruleBy : SendRule → List Actor → ℕ → Actor → Term → Result Outcome
 ruleBy S s a A (val v) = rule s a A (val v)
 ruleBy S s a A (var x) = rule s a A (var x)
-ruleBy S s a A (op o es) = operateBy S s a A o (valuesOf es)
+ruleBy S s a A (op o es) = operateBy S s a A o (valuesOf es) es
 ruleBy S s a A (letIn x e d) = rule s a A (letIn x e d)
 ruleBy S s a A (future x y e) = rule s a A (future x y e)
 ruleBy S s a A (literal k fs ms) = rule s a A (literal k fs ms)
-
-unfoldable pub turnBy : SendRule → List Actor → ℕ → Actor → Result Outcome
-turnBy S s a A = if isValue (A .expr) then takeRule a A (A .inbox) else ruleBy S s a A (redex (A .expr))
-
-unfoldable pub moveBy : SendRule → Bounds → State → ℕ → Result Moved
-moveBy S B σ a = do
-  A ← orRefuse 8 (getElem? (σ .actors) a)
-  E ← turnBy S (σ .actors) a A
-  limited B σ a E
-
--- the call, on lent words
-unfoldable pub moveCallBy : SendRule → List ℕ → ℕ → Reply Answer
-moveCallBy S state a = answered state (do
-  σ ← lent state
-  M ← moveBy S full σ a
-  done (M .answer, encode (M .state)))
 
 -- ---- the rule of send before the request
 unfoldable pub sendBefore : SendRule
@@ -85,36 +73,31 @@ sendBefore s a A (ref b r n) m vs = do
   met ← isolatesFor b a A vs
   becomes (sends (record { to = b; mail = message (ref b r n) m vs; copies = met })) A (val null)
 
--- ---- by the present rule it is the present move
-operate-now : (s : List Actor) (a : ℕ) (A : Actor) (o : Op Name) (vs : List Value) → operateBy sendRule s a A o vs ≡ operate s a A o vs
-unfolding operateBy operate
-operate-now s a A plus vs = refl
-operate-now s a A percent vs = refl
-operate-now s a A (get f) vs = refl
-operate-now s a A (set f) vs = refl
-operate-now s a A (call m) vs = refl
-operate-now s a A (send m) vs = refl
+-- ---- by the present rule of send it is the present rule
+operate-now : (s : List Actor) (a : ℕ) (A : Actor) (o : Op Name) (vs : List Value) (es : Terms) → operateBy sendRule s a A o vs es ≡ operate s a A o vs es
+unfolding operateBy bySend operate
+operate-now s a A o vs es = go (row o)
+  where
+    go : {o : Op Name} → Row o → operateBy sendRule s a A o vs es ≡ operate s a A o vs es
+    go (isBare o n e f w) = rw (e .1)
+    go (isField c k n e f i w) = rw (e .0 f .1)
+    go (isCall m) = refl
+    go (isSend m) = refl
 
 rule-now : (s : List Actor) (a : ℕ) (A : Actor) (e : Term) → ruleBy sendRule s a A e ≡ rule s a A e
 unfolding ruleBy rule
 rule-now s a A (val v) = refl
 rule-now s a A (var x) = refl
-rule-now s a A (op o es) = operate-now s a A o (valuesOf es)
+rule-now s a A (op o es) = operate-now s a A o (valuesOf es) es
 rule-now s a A (letIn x e d) = refl
 rule-now s a A (future x y e) = refl
 rule-now s a A (literal k fs ms) = refl
 
-turn-now : (s : List Actor) (a : ℕ) (A : Actor) → turnBy sendRule s a A ≡ turn s a A
-unfolding turnBy turn
-turn-now s a A = ap (λ r. if isValue (A .expr) then takeRule a A (A .inbox) else r) (rule-now s a A (redex (A .expr)))
-
-pub move-now : (B : Bounds) (σ : State) (a : ℕ) → moveBy sendRule B σ a ≡ moveWithin B σ a
-unfolding moveBy moveWithin free orRefuse
-move-now B σ a = go (getElem? (σ .actors) a)
-  where
-    go : (o : Option Actor) → (orRefuse 8 o >>= λ A. (turnBy sendRule (σ .actors) a A >>= limited B σ a)) ≡ ((orRefuse 8 o >>= turn (σ .actors) a) >>= limited B σ a)
-    go none = refl
-    go (some A) = ap (λ r. r >>= limited B σ a) (turn-now (σ .actors) a A)
+pub send-now : (B : Bounds) (σ : State) (a : ℕ) → moveBy (ruleBy sendRule) B σ a ≡ moveWithin B σ a
+unfolding turnBy
+send-now B σ a =
+    move-agrees (ruleBy sendRule) rule B σ a (λ A h. ap (λ r. if isValue (A .expr) then takeRule a A (A .inbox) else r) (rule-now (σ .actors) a A (redex (A .expr))))
+    ∙ move-now B σ a
 
 -- ---- what was: the same, or a refusal with 10 where P holds
 pub data Was (P : Type 0) {A : Type 0} (old new : Result A) : Type 0 where
@@ -155,27 +138,29 @@ send-was s a A (num n) resolve vs = same refl
 send-was s a A (num n) register vs = same refl
 send-was s a A (ref b r n) m vs = same refl
 
-rule-was : (s : List Actor) (a : ℕ) (A : Actor) (e : Term) → Was (RegistersNull e) (ruleBy sendBefore s a A e) (ruleBy sendRule s a A e)
-unfolding ruleBy operateBy receiverOf
-rule-was s a A (val v) = same refl
-rule-was s a A (var x) = same refl
-rule-was s a A (op plus es) = same refl
-rule-was s a A (op percent es) = same refl
-rule-was s a A (op (get f) es) = same refl
-rule-was s a A (op (set f) es) = same refl
-rule-was s a A (op (call m) es) = same refl
-rule-was s a A (op (send m) es) = go (valuesOf es) refl
+operate-was : (s : List Actor) (a : ℕ) (A : Actor) (es : Terms) {o : Op Name} → Row o → Was (RegistersNull (op o es)) (operateBy sendBefore s a A o (valuesOf es) es) (operateBy sendRule s a A o (valuesOf es) es)
+unfolding operateBy bySend receiverOf
+operate-was s a A es (isBare o n e f w) = rw (e .1) (same refl)
+operate-was s a A es (isField c k n e f i w) = rw (e .0 f .1) (same refl)
+operate-was s a A es (isCall m) = same refl
+operate-was s a A es (isSend m) = go (valuesOf es) refl
   where
     go : (vs : List Value) → valuesOf es ≡ vs → Was (RegistersNull (op (send m) es)) (receiverOf vs >>= λ (v, us). sendBefore s a A v m us) (receiverOf vs >>= λ (v, us). sendRule s a A v m us)
     go [] e = same refl
     go (v ∷ us) e = was-where (sendBefore s a A v m us) (sendRule s a A v m us) (λ p. record { parts = es; others = us; is = ap (λ k. op (send k) es) (p .1); first = e ∙ ap (λ x. x ∷ us) (p .0) }) (send-was s a A v m us)
+
+rule-was : (s : List Actor) (a : ℕ) (A : Actor) (e : Term) → Was (RegistersNull e) (ruleBy sendBefore s a A e) (ruleBy sendRule s a A e)
+unfolding ruleBy
+rule-was s a A (val v) = same refl
+rule-was s a A (var x) = same refl
+rule-was s a A (op o es) = operate-was s a A es (row o)
 rule-was s a A (letIn x e d) = same refl
 rule-was s a A (future x y e) = same refl
 rule-was s a A (literal k fs ms) = same refl
 
 -- ---- the move
 module _ (B : Bounds) (σ : State) (a : ℕ) where
-  turn-was : (A : Actor) → getElem? (σ .actors) a ≡ some A → (b : Bool) → isValue (A .expr) ≡ b → Was (NullAsked σ a) (turnBy sendBefore (σ .actors) a A) (turnBy sendRule (σ .actors) a A)
+  turn-was : (A : Actor) → getElem? (σ .actors) a ≡ some A → (b : Bool) → isValue (A .expr) ≡ b → Was (NullAsked σ a) (turnBy (ruleBy sendBefore) (σ .actors) a A) (turnBy (ruleBy sendRule) (σ .actors) a A)
   unfolding turnBy if_then_else_
   turn-was A h true e = same (rw e)
   turn-was A h false e =
@@ -183,23 +168,23 @@ module _ (B : Bounds) (σ : State) (a : ℕ) where
       let now = ruleBy sendRule (σ .actors) a A (redex (A .expr)) in
       rw e (was-where before now (λ r. record { actor = A; here = h; busy = e; registers = r }) (rule-was (σ .actors) a A (redex (A .expr))))
 
-  by-was : Was (NullAsked σ a) (moveBy sendBefore B σ a) (moveBy sendRule B σ a)
+  by-was : Was (NullAsked σ a) (moveBy (ruleBy sendBefore) B σ a) (moveBy (ruleBy sendRule) B σ a)
   unfolding moveBy orRefuse
   by-was = go (getElem? (σ .actors) a) refl
     where
-      go : (o : Option Actor) → getElem? (σ .actors) a ≡ o → Was (NullAsked σ a) (orRefuse 8 o >>= λ A. (turnBy sendBefore (σ .actors) a A >>= limited B σ a)) (orRefuse 8 o >>= λ A. (turnBy sendRule (σ .actors) a A >>= limited B σ a))
+      go : (o : Option Actor) → getElem? (σ .actors) a ≡ o → Was (NullAsked σ a) (orRefuse 8 o >>= λ A. (turnBy (ruleBy sendBefore) (σ .actors) a A >>= limited B σ a)) (orRefuse 8 o >>= λ A. (turnBy (ruleBy sendRule) (σ .actors) a A >>= limited B σ a))
       go none h = same refl
-      go (some A) h = was-then (turnBy sendBefore (σ .actors) a A) (turnBy sendRule (σ .actors) a A) (limited B σ a) (turn-was A h (isValue (A .expr)) refl)
+      go (some A) h = was-then (turnBy (ruleBy sendBefore) (σ .actors) a A) (turnBy (ruleBy sendRule) (σ .actors) a A) (limited B σ a) (turn-was A h (isValue (A .expr)) refl)
 
   -- each move answers and leaves what it did, refusals too, or is the .register of null, which was refused with 10
-  pub move-was : Was (NullAsked σ a) (moveBy sendBefore B σ a) (moveWithin B σ a)
-  move-was = transp (Was (NullAsked σ a) (moveBy sendBefore B σ a)) (move-now B σ a) by-was
+  pub move-was : Was (NullAsked σ a) (moveBy (ruleBy sendBefore) B σ a) (moveWithin B σ a)
+  move-was = transp (Was (NullAsked σ a) (moveBy (ruleBy sendBefore) B σ a)) (send-now B σ a) by-was
 
   -- a move that was made is made
-  pub made-as-before : (M : Moved) → moveBy sendBefore B σ a ≡ done M → moveWithin B σ a ≡ done M
+  pub made-as-before : (M : Moved) → moveBy (ruleBy sendBefore) B σ a ≡ done M → moveWithin B σ a ≡ done M
   made-as-before M e = go move-was
     where
-      go : Was (NullAsked σ a) (moveBy sendBefore B σ a) (moveWithin B σ a) → moveWithin B σ a ≡ done M
+      go : Was (NullAsked σ a) (moveBy (ruleBy sendBefore) B σ a) (moveWithin B σ a) → moveWithin B σ a ≡ done M
       go (same d) = sym d ∙ e
       go (stopped p d) = absurd (refused-done (sym d ∙ e))
 
@@ -212,11 +197,11 @@ unfolding answered
 reply-same w r (refused n) new h e = absurd (refused-done e)
 reply-same w r (done M) new h e = ap (reply w) (h M refl)
 
-pub call-as-before : (w : List ℕ) (a : ℕ) (r : Answer) → moveCallBy sendBefore w a .result ≡ done r → moveCall w a ≡ moveCallBy sendBefore w a
+pub call-as-before : (w : List ℕ) (a : ℕ) (r : Answer) → moveCallBy (ruleBy sendBefore) w a .result ≡ done r → moveCall w a ≡ moveCallBy (ruleBy sendBefore) w a
 unfolding moveCallBy moveCall move
 call-as-before w a r h = go (lent w) h
   where
-    go : (L : Result State) → answered w (L >>= λ σ. (moveBy sendBefore full σ a >>= λ M. done (M .answer, encode (M .state)))) .result ≡ done r
-        → answered w (L >>= λ σ. (moveWithin full σ a >>= λ M. done (M .answer, encode (M .state)))) ≡ answered w (L >>= λ σ. (moveBy sendBefore full σ a >>= λ M. done (M .answer, encode (M .state))))
+    go : (L : Result State) → answered w (L >>= λ σ. (moveBy (ruleBy sendBefore) full σ a >>= λ M. done (M .answer, encode (M .state)))) .result ≡ done r
+        → answered w (L >>= λ σ. (moveWithin full σ a >>= λ M. done (M .answer, encode (M .state)))) ≡ answered w (L >>= λ σ. (moveBy (ruleBy sendBefore) full σ a >>= λ M. done (M .answer, encode (M .state))))
     go (refused n) k = refl
-    go (done σ) k = reply-same w r (moveBy sendBefore full σ a) (moveWithin full σ a) (made-as-before full σ a) k
+    go (done σ) k = reply-same w r (moveBy (ruleBy sendBefore) full σ a) (moveWithin full σ a) (made-as-before full σ a) k

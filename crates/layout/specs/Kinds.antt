@@ -14,15 +14,15 @@ use Rattle.atlite.specs.Base.{sameBytes}
 use Rattle.atlite.specs.Facts.{and₂}
 use Rattle.atlite.specs.Lexicon.{Bytes}
 use Rattle.atlite.specs.Keywords.{Keywords, opWord, nullWord, thisWord, defWord, fieldWord, methodWord, Operator, naming, fn, when, operators, spelling}
-use Rattle.atlite.specs.Term.{this, Name, Op, plus, percent, get, set, call, send, written, demanded, Shape, exactly, shape, Kind}
+use Rattle.atlite.specs.Term.{this, Name, Op, plus, percent, same, choose, get, set, call, send, written, demanded, Shape, exactly, shape, Kind}
 use Rattle.layout.specs.Numbers.{fieldKind, nameLimit, tagLimit, digitLimit}
 use Rattle.layout.specs.Terms.{opKind, kindNumber}
 use Rattle.layout.specs.Tables.{srcKind}
 
 -- ---- rows
--- an operator with n operands and no name
+-- an operator with n operands and no name, which demands no more than these
 abbrev pub Bare : Op ℕ → ℕ → Type 0
-Bare o n = (shape o ≡ exactly n) × (shape (written o) ≡ exactly n) × (0 < n) × (n < 4)
+Bare o n = (shape o ≡ exactly n) × (shape (written o) ≡ exactly n) × (0 < n) × (n < 4) × (demanded (written o) n ≤ n)
 
 -- operators of kind k, one for each field, with n operands, all of them demanded
 abbrev pub Fields : (ℕ → Op ℕ) → ℕ → ℕ → Type 0
@@ -56,10 +56,11 @@ unfoldable pub forms : List Form
 unfolding demanded
 forms =
     nullValue ∷ number ∷ reference ∷ variable
-    ∷ bare plus 2 (refl, refl, omega arith, omega arith) ∷ bare percent 2 (refl, refl, omega arith, omega arith)
+    ∷ bare plus 2 (refl, refl, omega arith, omega arith, omega arith) ∷ bare percent 2 (refl, refl, omega arith, omega arith, omega arith)
     ∷ onField get 9 1 ((λ f. (refl, refl, refl, λ m. refl)), omega arith, omega arith) ∷ onField set 10 2 ((λ f. (refl, refl, refl, λ m. refl)), omega arith, omega arith)
     ∷ letIn ∷ future ∷ calls ∷ sends
-    ∷ literal Kind.object ∷ literal Kind.isolate ∷ literal Kind.actor ∷ []
+    ∷ literal Kind.object ∷ literal Kind.isolate ∷ literal Kind.actor
+    ∷ bare same 2 (refl, refl, omega arith, omega arith, omega arith) ∷ bare choose 3 (refl, refl, omega arith, omega arith, omega arith) ∷ []
 
 unfoldable pub formAt : List Form → ℕ → Form
 formAt [] k = nothing
@@ -193,7 +194,7 @@ by-kind P z h k = go forms
 -- ---- operators
 -- the last kind of a term's words
 abbrev pub lastKind : ℕ
-lastKind = 17
+lastKind = 19
 
 -- the kinds that operators may have: none of those that bind names or have parts
 unfoldable pub operating : ℕ → Bool
@@ -206,6 +207,8 @@ pub operates : {N : Type 0} (o : Op N) → operating (opKind o) ≡ true
 unfolding operating
 operates plus = refl
 operates percent = refl
+operates same = refl
+operates choose = refl
 operates (get f) = refl
 operates (set f) = refl
 operates (call m) = refl
@@ -237,6 +240,8 @@ pub row : (o : Op Name) → Row o
 unfolding Kinds Words
 row plus = isBare plus 2 _ refl refl
 row percent = isBare percent 2 _ refl refl
+row same = isBare same 2 _ refl refl
+row choose = isBare choose 3 _ refl refl
 row (get f) = isField get 9 1 _ f refl refl
 row (set f) = isField set 10 2 _ f refl refl
 row (call m) = isCall m
@@ -253,6 +258,8 @@ pub src-row : (o : Op ℕ) → SrcRow o
 unfolding Kinds
 src-row plus = SrcRow.isBare plus 2 _ refl
 src-row percent = SrcRow.isBare percent 2 _ refl
+src-row same = SrcRow.isBare same 2 _ refl
+src-row choose = SrcRow.isBare choose 3 _ refl
 src-row (get f) = SrcRow.isField get 9 1 _ f refl
 src-row (set f) = SrcRow.isField set 10 2 _ f refl
 src-row (call m) = SrcRow.isCall m

@@ -13,7 +13,7 @@ use lib.Dec.{eqb, leb}
 use borrow.Author.Tests.{eqb-true, leb-true, eq-eqb, le-leb}
 use Rattle.atlite.specs.Base.{Base, if_then_else_, sameBytes, all}
 use Rattle.atlite.specs.Lexicon.{Bytes, inWord, isLetter, isDigit, letterFirst, isWord, among}
-use Rattle.atlite.specs.Term.{Term·all, plain, plus, percent, get, set, call, send, Kind, object, isolate, actor}
+use Rattle.atlite.specs.Term.{Term·all, plain, plus, percent, same, choose, get, set, call, send, Kind, object, isolate, actor}
 use Rattle.atlite.specs.Valid.{All, isName, callable, sendable, operable}
 use Rattle.atlite.specs.Script.{SrcOp, kept, ask, resolve, seq, srcShape}
 use Rattle.atlite.specs.Printer.{Printer, printItems, form, printWord, srcNames, placed}
@@ -201,7 +201,9 @@ rows =
     (row (refl, λ ws. refl, λ w n. exactly-asks true 2 n)
     (row refl
     (row refl
-    (row refl tt)))))))))))))))
+    (row refl
+    (row (refl, λ ws. refl, λ w n. exactly-asks true 3 n)
+    (row (refl, λ ws. refl, λ w n. exactly-asks true 2 n) tt)))))))))))))))))
 
 found-writes : (os : List Operator) (w : Bytes) (o : Operator) → All (λ o. Writes (spelling o) o) os → spelled os w ≡ some o → Writes w o
 unfolding spelled if_then_else_
@@ -228,6 +230,8 @@ pub op-read : (o : SrcOp) → OpRead o
 unfolding Words
 op-read (kept plus) = nameless (refl, refl)
 op-read (kept percent) = nameless (refl, refl)
+op-read (kept same) = nameless (refl, refl)
+op-read (kept choose) = nameless (refl, refl)
 op-read (kept (get f)) = named (λ f. kept (get f)) f (refl, refl)
 op-read (kept (set f)) = named (λ f. kept (set f)) f (refl, refl)
 op-read (kept (call m)) = named (λ m. kept (call m)) m (refl, refl)

@@ -58,6 +58,9 @@ fn four(text: &[u8], at: usize, end: usize) -> u8
     if named(text, at, end, b"this") {
         return 6;
     }
+    if named(text, at, end, b"same") {
+        return 18;
+    }
     0
 }
 
@@ -99,6 +102,9 @@ fn other(text: &[u8], at: usize, end: usize) -> u8
     }
     if named(text, at, end, b"method") {
         return 192;
+    }
+    if named(text, at, end, b"if") {
+        return 19;
     }
     0
 }

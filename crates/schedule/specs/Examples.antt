@@ -1,5 +1,5 @@
 -- The premise of `two-lists` is met by lists that differ: from one loaded script, two lists of calls with the same moves, senders and
--- creators in which all four actors move, one of them with entries that are refused. Assumes nothing.
+-- creators in which all four actors move, one of them with entries that are refused. Actor 2 compares and chooses. Assumes nothing.
 use Prim.Native.Nat.{ℕ, zero, suc, _<_}
 use mathlib.Core.List.{List, [], _∷_}
 use mathlib.Core.Path.{_≡_, refl, sym, _∙_, subst₂}
@@ -31,29 +31,29 @@ unfoldable pub start : List ℕ
 start =
     loadCall
     (readCall
-    (bytes "(def a (actor (method go () 1)))\n(def b (actor (method go () 2)))\n(def c (actor (method go () 3)))\n(send a go)\n(send b go)\n(send c go)\n")
+    (bytes "(def a (actor (method go () 1)))\n(def b (actor (method go (k) (if (same k 1) 2 5))))\n(def c (actor (method go () 3)))\n(send a go)\n(send b go 1)\n(send c go)\n")
     (replicate tableWords 0) .buffer)
     (replicate stateWords 0) .buffer
 
 -- actor 0 to its end, then the others one after another
 unfoldable pub first : List Call
-first = run (replicate 11 0) ∷ run (1 ∷ 1 ∷ 2 ∷ 2 ∷ 3 ∷ 3 ∷ []) ∷ []
+first = run (replicate 11 0) ∷ run (1 ∷ 1 ∷ 2 ∷ 2 ∷ 2 ∷ 2 ∷ 3 ∷ 3 ∷ []) ∷ []
 
--- the others as soon as they can; there is no actor 7, and actor 3 has nothing to do at first
+-- the others as soon as they can, actor 2 in between; there is no actor 7, and actor 3 has nothing to do at first
 unfoldable pub second : List Call
-second = run (0 ∷ 0 ∷ 7 ∷ 0 ∷ 0 ∷ 0 ∷ 0 ∷ 0 ∷ 1 ∷ 0 ∷ 0 ∷ 2 ∷ []) ∷ move 2 ∷ run (3 ∷ 0 ∷ 0 ∷ 3 ∷ 1 ∷ 3 ∷ []) ∷ []
+second = run (0 ∷ 0 ∷ 7 ∷ 0 ∷ 0 ∷ 0 ∷ 0 ∷ 0 ∷ 1 ∷ 0 ∷ 0 ∷ 2 ∷ []) ∷ move 2 ∷ run (3 ∷ 0 ∷ 2 ∷ 0 ∷ 3 ∷ 1 ∷ 2 ∷ 3 ∷ []) ∷ []
 
 unfoldable firstEvents : List Event
 firstEvents =
     event 0 (Created 1) ∷ event 0 Inner ∷ event 0 (Created 2) ∷ event 0 Inner ∷ event 0 (Created 3) ∷ event 0 Inner
     ∷ event 0 (Sent 1) ∷ event 0 Inner ∷ event 0 (Sent 2) ∷ event 0 Inner ∷ event 0 (Sent 3)
-    ∷ event 1 Taken ∷ event 1 Inner ∷ event 2 Taken ∷ event 2 Inner ∷ event 3 Taken ∷ event 3 Inner ∷ []
+    ∷ event 1 Taken ∷ event 1 Inner ∷ event 2 Taken ∷ event 2 Inner ∷ event 2 Inner ∷ event 2 Inner ∷ event 3 Taken ∷ event 3 Inner ∷ []
 
 unfoldable secondEvents : List Event
 secondEvents =
     event 0 (Created 1) ∷ event 0 Inner ∷ event 0 (Created 2) ∷ event 0 Inner ∷ event 0 (Created 3) ∷ event 0 Inner
     ∷ event 0 (Sent 1) ∷ event 1 Taken ∷ event 0 Inner ∷ event 0 (Sent 2) ∷ event 2 Taken ∷ event 2 Inner
-    ∷ event 0 Inner ∷ event 0 (Sent 3) ∷ event 3 Taken ∷ event 1 Inner ∷ event 3 Inner ∷ []
+    ∷ event 0 Inner ∷ event 2 Inner ∷ event 0 (Sent 3) ∷ event 3 Taken ∷ event 1 Inner ∷ event 2 Inner ∷ event 3 Inner ∷ []
 
 first-moved : movedBy start first ≡ firstEvents
 unfolding Everything start first firstEvents

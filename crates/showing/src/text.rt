@@ -157,6 +157,8 @@ pub fn put_keyword(k: u32, out: &mut [u8], o: usize) -> usize
         15 => put_bytes(b"object", out, o),
         16 => put_bytes(b"isolate", out, o),
         17 => put_bytes(b"actor", out, o),
+        18 => put_bytes(b"same", out, o),
+        19 => put_bytes(b"if", out, o),
         64 => put_bytes(b"ask", out, o),
         65 => put_bytes(b"fn", out, o),
         66 => put_bytes(b"resolve", out, o),

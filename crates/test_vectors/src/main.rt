@@ -1,6 +1,6 @@
 // Plays every input of four files, and counts those for which the bytes stored with them are written. Of the program `loops`: the worked
-// examples of document 01, inputs on points where it can be read twice, and inputs made at random. Of the program `replay`: inputs on what
-// it is sent that is null, and on the form of its line.
+// examples of document 01, inputs on points where it can be read twice, and inputs made at random. Of the program `replay`: inputs on
+// what each request brought, and on the form of its line.
 //
 // A record is the length of the input in five digits, a space, the length of what is to be written in five digits and the end of the line;
 // then the input, and what is to be written.

@@ -27,5 +27,8 @@ other-spec =
     (λ c. search laws)  -- slice-aggregate-named-6
     (λ c κs. search laws)  -- named-requires-6
     (λ c. search laws)  -- returns-6
-    (λ c. keyword-not _ others (search laws) (search laws, (search laws, (search laws, (search laws, (search laws, (search laws, tt)))))))  -- returns-7
+    (λ c. search laws)  -- slice-aggregate-named-7
+    (λ c κs. search laws)  -- named-requires-7
+    (λ c. search laws)  -- returns-7
+    (λ c. keyword-not _ others (search laws) (search laws, (search laws, (search laws, (search laws, (search laws, (search laws, (search laws, tt))))))))  -- returns-8
     )

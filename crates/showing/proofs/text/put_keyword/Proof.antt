@@ -53,6 +53,10 @@ put-keyword-spec =
     (λ c κs. search needs)  -- put-bytes-requires-20
     (λ c. search needs)  -- slice-aggregate-put-bytes-21
     (λ c κs. search needs)  -- put-bytes-requires-21
+    (λ c. search needs)  -- slice-aggregate-put-bytes-22
+    (λ c κs. search needs)  -- put-bytes-requires-22
+    (λ c. search needs)  -- slice-aggregate-put-bytes-23
+    (λ c κs. search needs)  -- put-bytes-requires-23
     (λ c. search needs)  -- same-length
     (λ c. search keys)  -- returns
     (λ c. search needs)  -- same-length-2
@@ -95,5 +99,9 @@ put-keyword-spec =
     (λ c. search keys)  -- returns-20
     (λ c. search needs)  -- same-length-21
     (λ c. search keys)  -- returns-21
+    (λ c. search needs)  -- same-length-22
     (λ c. search keys)  -- returns-22
+    (λ c. search needs)  -- same-length-23
+    (λ c. search keys)  -- returns-23
+    (λ c. search keys)  -- returns-24
     )
