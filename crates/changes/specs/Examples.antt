@@ -36,3 +36,28 @@ nullReplies =
 pub null-replies : all agrees nullReplies ≡ true
 unfolding All row agrees nullReplies
 null-replies = refl
+
+-- P2: the part that is taken is not reduced in the same move, and the other never; a reference says yes, of an open future too; null is the
+-- same as null and not as 0, an object as itself and not as a number, an isolate not as one with equal fields; both words are reserved wherever
+-- a name may stand; three parts and two, no other number; a listing shows them as a script writes them
+unfoldable pub choices : List Example
+unfolding row
+choices =
+    row "0\n(if 1 (plus 1 2) (get null a))\n" "I\n(actor 0 1 0 0 (plus 1 2))\n"
+    ∷ row "00\n(if (plus 0 0) (get null a) (plus 1 2))\n" "I I\n(actor 0 2 0 0 (plus 1 2))\n"
+    ∷ row "0\n(if null 1 2)\n" "I\n(actor 0 1 0 0 2)\n"
+    ∷ row "00\n(future f r (if f 1 2))\n" "I I\n(actor 0 2 2 0 1)\n(future 0 m 0 open)\n(resolver 0 m 1 0)\n"
+    ∷ row "000\n(plus (same null null) (same null 0))\n" "I I I\n(actor 0 3 0 0 1)\n"
+    ∷ row "00000000\n(let i (isolate (field a 1)) (same i (isolate (field a 1))))\n" "I I I I I I I I\n(actor 0 8 2 0 0)\n(isolate 0 m 0 (field a 1))\n(isolate 0 m 1 (field a 1))\n"
+    ∷ row "00000\n(let o (object) (if (same o o) (same o 1) 2))\n" "I I I I I\n(actor 0 5 1 0 0)\n(object 0 m 0)\n"
+    ∷ row "0\n(send null same)\n" "(refused 2)\n"
+    ∷ row "0\n(let if 1 2)\n" "(refused 2)\n"
+    ∷ row "0\n(object (method if () 1))\n" "(refused 2)\n"
+    ∷ row "0\n(if 1 2)\n" "(refused 2)\n"
+    ∷ row "0\n(same 1 2 3)\n" "(refused 2)\n"
+    ∷ row "\n(let x (if 1 2 3) (same x (if x 4 (same 5 6))))\n" "\n(actor 0 0 0 0 (let x (if 1 2 3) (same x (if x 4 (same 5 6)))))\n"
+    ∷ []
+
+pub choices-made : all agrees choices ≡ true
+unfolding All row agrees choices
+choices-made = refl
