@@ -5,6 +5,7 @@ use std::fmt::{self, Display};
 
 use crate::invariant::{self, Broken};
 use crate::loops::{loops, split};
+use crate::operators::says_no;
 use crate::state::{most, Future, Message, State, Value};
 use crate::term::{Name, Term};
 use crate::{load, print, read, step};
@@ -15,6 +16,11 @@ pub enum Rule {
     Let,
     Plus,
     Percent,
+    Same,
+    /// An if whose second part is taken.
+    IfYes,
+    /// An if whose third part is taken.
+    IfNo,
     Object,
     Isolate,
     Actor,
@@ -42,10 +48,13 @@ pub enum Rule {
 }
 
 impl Rule {
-    pub const ALL: [Rule; 26] = [
+    pub const ALL: [Rule; 29] = [
         Rule::Let,
         Rule::Plus,
         Rule::Percent,
+        Rule::Same,
+        Rule::IfYes,
+        Rule::IfNo,
         Rule::Object,
         Rule::Isolate,
         Rule::Actor,
@@ -84,6 +93,9 @@ impl Rule {
             Term::Let(..) => Rule::Let,
             Term::Plus(_) => Rule::Plus,
             Term::Percent(_) => Rule::Percent,
+            Term::Same(_) => Rule::Same,
+            Term::If(parts) if parts[0].value().is_some_and(says_no) => Rule::IfNo,
+            Term::If(_) => Rule::IfYes,
             Term::Object(_) => Rule::Object,
             Term::Isolate(_) => Rule::Isolate,
             Term::Actor(_) => Rule::Actor,
@@ -284,8 +296,11 @@ mod tests {
         census.add(b"0000000000000\n(future f r (resolve r 5))\n", true).unwrap();
         census.add(b"0\n(plus 1 null)\n", true).unwrap();
         census.add(b"0\n(plus 1)\n", true).unwrap();
-        assert_eq!((census.inputs, census.refused[2]), (3, 1));
-        assert_eq!(census.moves.values().sum::<usize>(), 12);
+        census.add(b"0000\n(if (same 1 2) 3 (if null 4 (same 5 5)))\n", true).unwrap();
+        census.add(b"00\n(if (object) 1 2)\n", true).unwrap();
+        assert_eq!((census.inputs, census.refused[2]), (5, 1));
+        assert_eq!(census.moves.values().sum::<usize>(), 12 + 4 + 2);
+        assert_eq!([Rule::Same, Rule::IfYes, Rule::IfNo].map(|rule| census.moves[&rule]), [2, 1, 2]);
         assert_eq!(census.moves[&Rule::RegisterNumber], 1);
         assert_eq!(census.stopped[&(Rule::Plus, 15)], 1);
         assert_eq!((census.stops(9), census.stops(15), census.stops(16)), (1, 1, 0));

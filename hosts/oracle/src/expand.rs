@@ -61,6 +61,8 @@ impl Expander {
             Expr::This => this.term(),
             Expr::Plus(e, d) => Term::Plus(pair(e, d)),
             Expr::Percent(e, d) => Term::Percent(pair(e, d)),
+            Expr::Same(e, d) => Term::Same(pair(e, d)),
+            Expr::If(e, d, c) => Term::If(Box::new([one(e), one(d), one(c)])),
             Expr::Get(e, f) => Term::Get(*f, Box::new(one(e))),
             Expr::Set(e, f, d) => Term::Set(*f, pair(e, d)),
             Expr::Call(e, m, args) => Term::call(one(e), Name::Plain(*m), all(args)),
@@ -169,10 +171,26 @@ mod tests {
     }
 
     #[test]
+    fn parts_of_if_and_same_are_expanded_each() {
+        assert_eq!(
+            expanded("(if this (seq 1 2) (same (fn x this) (if 1 2 this)))\n"),
+            "(if null (let .s 1 2) (same (let .t null (object (method apply (x) .t))) (if 1 2 null)))"
+        );
+        assert_eq!(
+            expanded("(object (method m () (if this (fn x (if this x 1)) 2)))\n"),
+            "(object (method m () (if this (let .t this (object (method apply (x) (if .t x 1)))) 2)))"
+        );
+    }
+
+    #[test]
     fn only_256_nodes_are_loaded() {
         let refusal = |text: &str| load(&read(text.as_bytes()).unwrap()).err();
         let whens = |last: &str| format!("{}1\n{last}\n", "(when 1 x 1)\n".repeat(18));
         assert_eq!(refusal(&whens("(get 1 a)")), None);
         assert_eq!(refusal(&whens("(plus 1 1)")), Some(16));
+        assert_eq!(refusal(&whens("(same 1 1)")), Some(16));
+        let sevenfold = |last: &str| format!("{}{last}\n", "(if 1 (same 2 3) 4)\n".repeat(36));
+        assert_eq!(refusal(&sevenfold("(if 1 2 3)")), None);
+        assert_eq!(refusal(&sevenfold("(if 1 2 (get 3 a))")), Some(16));
     }
 }

@@ -162,10 +162,11 @@ impl Check<'_> {
             }
             Term::Var(var) => must(place.bound.contains(var), "variables are bound"),
             Term::This => must(place.this, "this stands in literals and methods"),
-            Term::Plus(pair) | Term::Percent(pair) | Term::Set(_, pair) => {
+            Term::Plus(pair) | Term::Percent(pair) | Term::Same(pair) | Term::Set(_, pair) => {
                 self.term(&pair.0, place)?;
                 self.term(&pair.1, place)
             }
+            Term::If(parts) => parts.iter().try_for_each(|part| self.term(part, place)),
             Term::Get(_, part) => self.term(part, place),
             Term::Call(invocation) => {
                 must(matches!(invocation.name, Name::Plain(_) | Name::Resolve), "a call is plain or of .resolve")?;
@@ -230,6 +231,9 @@ mod tests {
     fn states_of_scripts_hold() {
         let text = "(def a (actor (method m (x) x)))\n(def i (isolate (field f this)))\n(when (ask a m i) x x)\n";
         (0..25).for_each(|moves| assert_eq!(holds(&state(text, moves)), Ok(())));
+        let text = "(def o (object (method m (x) (if (same x this) (let y x (same y this)) (if x this null)))))\n\
+                    (if (call o m o) (call o m null) (object (field a (if 1 this 2))))\n";
+        (0..25).for_each(|moves| assert_eq!(holds(&state(text, moves)), Ok(())));
     }
 
     #[test]
@@ -247,6 +251,13 @@ mod tests {
         let mut open = state("1\n", 0);
         open.actors[0].expression = Term::This;
         assert_eq!(condition(&open), "this stands in literals and methods");
+        for at in 0..3 {
+            let mut parts = [0, 1, 2].map(Term::number);
+            parts[at] = Term::Var(Var::Word(crate::script::Word(0)));
+            open.actors[0].expression = Term::If(Box::new(parts));
+            open.recount();
+            assert_eq!(condition(&open), "variables are bound");
+        }
         open.actors.clear();
         assert_eq!(condition(&open), "there are 1 to 4 actors");
     }

@@ -110,45 +110,25 @@ impl Lister<'_> {
             Term::Value(value) => self.value(*value),
             Term::Var(var) => self.var(*var),
             Term::This => self.text("this"),
-            Term::Plus(pair) => {
-                self.text("(plus");
-                self.pair(pair);
-            }
-            Term::Percent(pair) => {
-                self.text("(percent");
-                self.pair(pair);
-            }
-            Term::Get(field, receiver) => {
-                self.text("(get ");
-                self.term(receiver);
-                self.text(" ");
-                self.word(*field);
-                self.text(")");
-            }
-            Term::Set(field, pair) => {
-                self.text("(set ");
-                self.term(&pair.0);
-                self.text(" ");
-                self.word(*field);
-                self.text(" ");
-                self.term(&pair.1);
-                self.text(")");
-            }
+            Term::Plus(pair) => self.operation("(plus", [&pair.0, &pair.1]),
+            Term::Percent(pair) => self.operation("(percent", [&pair.0, &pair.1]),
+            Term::Same(pair) => self.operation("(same", [&pair.0, &pair.1]),
+            Term::If(parts) => self.operation("(if", &**parts),
+            Term::Get(field, receiver) => self.member("(get ", receiver, *field, None),
+            Term::Set(field, pair) => self.member("(set ", &pair.0, *field, Some(&pair.1)),
             Term::Call(invocation) => self.invocation("(call ", invocation),
             Term::Send(invocation) => self.invocation("(send ", invocation),
             Term::Let(var, pair) => {
                 self.text("(let ");
                 self.var(*var);
-                self.pair(pair);
+                self.operands([&pair.0, &pair.1]);
             }
             Term::Future(future, resolver, body) => {
                 self.text("(future ");
                 self.var(*future);
                 self.text(" ");
                 self.var(*resolver);
-                self.text(" ");
-                self.term(body);
-                self.text(")");
+                self.operands([&**body]);
             }
             Term::Object(literal) => self.literal("(object", literal),
             Term::Isolate(literal) => self.literal("(isolate", literal),
@@ -156,12 +136,25 @@ impl Lister<'_> {
         }
     }
 
-    /// Two operands and the closing bracket.
-    fn pair(&mut self, pair: &(Term, Term)) {
+    fn member(&mut self, start: &str, receiver: &Term, field: Word, value: Option<&Term>) {
+        self.text(start);
+        self.term(receiver);
         self.text(" ");
-        self.term(&pair.0);
-        self.text(" ");
-        self.term(&pair.1);
+        self.word(field);
+        self.operands(value);
+    }
+
+    fn operation<'e>(&mut self, start: &str, operands: impl IntoIterator<Item = &'e Term>) {
+        self.text(start);
+        self.operands(operands);
+    }
+
+    /// Operands and the closing bracket.
+    fn operands<'e>(&mut self, operands: impl IntoIterator<Item = &'e Term>) {
+        for operand in operands {
+            self.text(" ");
+            self.term(operand);
+        }
         self.text(")");
     }
 
@@ -170,11 +163,7 @@ impl Lister<'_> {
         self.term(&invocation.receiver);
         self.text(" ");
         self.name(invocation.name);
-        for arg in &invocation.args {
-            self.text(" ");
-            self.term(arg);
-        }
-        self.text(")");
+        self.operands(&invocation.args);
     }
 
     fn literal(&mut self, operator: &str, literal: &Literal) {
@@ -271,6 +260,8 @@ mod tests {
     fn every_form_that_is_left_prints_as_in_the_text() {
         let line = "(let x (plus 1 (percent 2 3)) (future f r (set (call x m (get f a)) b (send r n x f this))))";
         assert_eq!(printed(&format!("\n{line}\n")), format!("(actor 0 0 0 0 {})\n", line.replace("this", "null")));
+        let choice = "(if (same 1 (if 0 2 3)) (same 4 5) (let x (if 6 7 8) (same x x)))";
+        assert_eq!(printed(&format!("\n{choice}\n")), format!("(actor 0 0 0 0 {choice})\n"));
         let literal = "(actor (field a (isolate)) (method m (x) (object (method n () (plus x (get this a))))))";
         assert_eq!(printed(&format!("\n{literal}\n")), format!("(actor 0 0 0 0 {literal})\n"));
     }

@@ -10,10 +10,7 @@ pub fn print(table: &Table) -> Vec<u8> {
     let mut printer = Printer { words: &table.words, out: String::new() };
     for line in &table.script.lines {
         match line {
-            Line::Def(name, bound) => printer.form("def", |p| {
-                p.label(*name);
-                p.operand(bound);
-            }),
+            Line::Def(name, bound) => printer.form("def", |p| p.label(*name).operand(bound)),
             Line::Expr(expr) => printer.expr(expr),
         }
         printer.out.push('\n');
@@ -34,91 +31,58 @@ impl Printer<'_> {
             Expr::Var(word) => self.word(*word),
             Expr::Null => self.out.push_str("null"),
             Expr::This => self.out.push_str("this"),
-            Expr::Plus(a, b) => self.pair("plus", a, b),
-            Expr::Percent(a, b) => self.pair("percent", a, b),
-            Expr::Resolve(a, b) => self.pair("resolve", a, b),
-            Expr::Seq(a, b) => self.pair("seq", a, b),
+            Expr::Plus(a, b) => self.operation("plus", &[a, b]),
+            Expr::Percent(a, b) => self.operation("percent", &[a, b]),
+            Expr::Same(a, b) => self.operation("same", &[a, b]),
+            Expr::If(a, b, c) => self.operation("if", &[a, b, c]),
+            Expr::Resolve(a, b) => self.operation("resolve", &[a, b]),
+            Expr::Seq(a, b) => self.operation("seq", &[a, b]),
             Expr::Call(e, m, args) => self.invocation("call", e, *m, args),
             Expr::Send(e, m, args) => self.invocation("send", e, *m, args),
             Expr::Ask(e, m, args) => self.invocation("ask", e, *m, args),
             Expr::Object(literal) => self.literal("object", literal),
             Expr::Isolate(literal) => self.literal("isolate", literal),
             Expr::Actor(literal) => self.literal("actor", literal),
-            Expr::Get(e, f) => self.form("get", |p| {
-                p.operand(e);
-                p.label(*f);
-            }),
-            Expr::Set(e, f, d) => self.form("set", |p| {
-                p.operand(e);
-                p.label(*f);
-                p.operand(d);
-            }),
-            Expr::Let(x, e, d) => self.form("let", |p| {
-                p.label(*x);
-                p.operand(e);
-                p.operand(d);
-            }),
-            Expr::Future(f, r, e) => self.form("future", |p| {
-                p.label(*f);
-                p.label(*r);
-                p.operand(e);
-            }),
-            Expr::Fn(x, e) => self.form("fn", |p| {
-                p.label(*x);
-                p.operand(e);
-            }),
-            Expr::When(e, x, d) => self.form("when", |p| {
-                p.operand(e);
-                p.label(*x);
-                p.operand(d);
-            }),
+            Expr::Get(e, f) => self.form("get", |p| p.operand(e).label(*f)),
+            Expr::Set(e, f, d) => self.form("set", |p| p.operand(e).label(*f).operand(d)),
+            Expr::Let(x, e, d) => self.form("let", |p| p.label(*x).operand(e).operand(d)),
+            Expr::Future(f, r, e) => self.form("future", |p| p.label(*f).label(*r).operand(e)),
+            Expr::Fn(x, e) => self.form("fn", |p| p.label(*x).operand(e)),
+            Expr::When(e, x, d) => self.form("when", |p| p.operand(e).label(*x).operand(d)),
         }
     }
 
     /// A bracket around an operator word and whatever `parts` adds.
-    fn form(&mut self, operator: &str, parts: impl FnOnce(&mut Self)) {
+    fn form(&mut self, operator: &str, parts: impl FnOnce(&mut Self) -> &mut Self) {
         self.out.push('(');
         self.out.push_str(operator);
-        parts(self);
-        self.out.push(')');
+        parts(self).out.push(')');
     }
 
-    fn pair(&mut self, operator: &str, first: &Expr, second: &Expr) {
-        self.form(operator, |p| {
-            p.operand(first);
-            p.operand(second);
-        });
+    /// An operator that has nothing but operands.
+    fn operation(&mut self, operator: &str, operands: &[&Expr]) {
+        self.form(operator, |p| operands.iter().fold(p, |p, operand| p.operand(operand)));
     }
 
     fn invocation(&mut self, operator: &str, receiver: &Expr, name: Word, args: &[Expr]) {
-        self.form(operator, |p| {
-            p.operand(receiver);
-            p.label(name);
-            args.iter().for_each(|arg| p.operand(arg));
-        });
+        self.form(operator, |p| args.iter().fold(p.operand(receiver).label(name), |p, arg| p.operand(arg)));
     }
 
     fn literal(&mut self, operator: &str, literal: &Literal) {
         self.form(operator, |p| {
             for field in &literal.fields {
                 p.out.push(' ');
-                p.form("field", |p| {
-                    p.label(field.name);
-                    p.operand(&field.init);
-                });
+                p.form("field", |p| p.label(field.name).operand(&field.init));
             }
             for method in &literal.methods {
                 p.out.push(' ');
-                p.form("method", |p| {
-                    p.label(method.name);
-                    p.params(&method.params);
-                    p.operand(&method.body);
-                });
+                p.form("method", |p| p.label(method.name).params(&method.params).operand(&method.body));
             }
+            p
         });
     }
 
-    fn params(&mut self, params: &[Word]) {
+    fn params(&mut self, params: &[Word]) -> &mut Self {
         self.out.push_str(" (");
         for (at, param) in params.iter().enumerate() {
             if at > 0 {
@@ -127,16 +91,19 @@ impl Printer<'_> {
             self.word(*param);
         }
         self.out.push(')');
+        self
     }
 
-    fn operand(&mut self, expr: &Expr) {
+    fn operand(&mut self, expr: &Expr) -> &mut Self {
         self.out.push(' ');
         self.expr(expr);
+        self
     }
 
-    fn label(&mut self, word: Word) {
+    fn label(&mut self, word: Word) -> &mut Self {
         self.out.push(' ');
         self.word(word);
+        self
     }
 
     fn word(&mut self, word: Word) {
@@ -156,6 +123,7 @@ mod tests {
                     (method n (p q r) (set p a q))))\n\
                     (seq (call o m) (send o n 1 2 3))\n\
                     (let y (ask o m x) (when y z (fn w (plus w z))))\n\
+                    (if (same x null) (if x 1 this) (same this (same 1 x)))\n\
                     (future f r (resolve r (isolate (field k (actor)))))\n\
                     null\n16777215\n";
         let table = read(text.as_bytes()).unwrap();

@@ -46,10 +46,9 @@ impl Walk {
         match expr {
             Expr::Number(_) | Expr::Null | Expr::This => {}
             Expr::Var(word) => self.found.unbound |= !self.scope[self.floor..].contains(word),
-            Expr::Plus(a, b) | Expr::Percent(a, b) | Expr::Resolve(a, b) | Expr::Seq(a, b) | Expr::Set(a, _, b) => {
-                self.expr(a);
-                self.expr(b);
-            }
+            Expr::Plus(a, b) | Expr::Percent(a, b) | Expr::Same(a, b) => self.all(&[a, b]),
+            Expr::Resolve(a, b) | Expr::Seq(a, b) | Expr::Set(a, _, b) => self.all(&[a, b]),
+            Expr::If(a, b, c) => self.all(&[a, b, c]),
             Expr::Get(e, _) => self.expr(e),
             Expr::Call(e, _, args) | Expr::Send(e, _, args) | Expr::Ask(e, _, args) => {
                 self.expr(e);
@@ -68,6 +67,11 @@ impl Walk {
                 self.floor = floor;
             }
         }
+    }
+
+    /// Parts that see what the form itself sees.
+    fn all(&mut self, parts: &[&Expr]) {
+        parts.iter().for_each(|part| self.expr(part));
     }
 
     fn literal(&mut self, literal: &Literal) {
@@ -104,6 +108,7 @@ pub(crate) fn repeats<T: PartialEq>(items: impl Iterator<Item = T> + Clone) -> b
 
 #[cfg(test)]
 mod tests {
+    use super::examine;
     use crate::text::read;
 
     fn refusal(text: &str) -> Option<u8> {
@@ -119,6 +124,7 @@ mod tests {
             "(def x 1)\n(object (field a x) (method m () x))\n",
             "(let x 1 (when x x (plus x 1)))\n",
             "(actor (method m (x) (fn y (plus x y))))\n",
+            "(def x 1)\n(if x (let y x (same x y)) (object (field a x)))\n",
         ] {
             assert_eq!(refusal(text), None, "{text:?}");
         }
@@ -130,10 +136,21 @@ mod tests {
             "(def x 1)\n(actor (field a x))\n",
             "(def x (fn y (call x apply y)))\n1\n",
             "(when x x x)\n",
+            "(if x 1 2)\n",
+            "(if 1 x 2)\n",
+            "(if 1 (let x 1 x) x)\n",
+            "(def x 1)\n(if x x (isolate (field a x)))\n",
+            "(same 1 x)\n",
             "(object (field a x) (method m (x) x))\n",
         ] {
             assert_eq!(refusal(text), Some(3), "{text:?}");
         }
+    }
+
+    #[test]
+    fn every_part_is_a_node() {
+        let script = read(b"(if (same 1 2) (if 3 4 5) 6)\n").unwrap().script;
+        assert_eq!(examine(&script).nodes, 9);
     }
 
     #[test]
@@ -144,6 +161,7 @@ mod tests {
             "(object (method m () 1) (method m (x) x))\n",
             "(object (method m (x y x) 1))\n",
             "(future x x 1)\n",
+            "(if 1 2 (future x x 1))\n",
         ] {
             assert_eq!(refusal(text), Some(4), "{text:?}");
         }

@@ -13,6 +13,8 @@ pub enum Expr {
     This,
     Plus(Box<Expr>, Box<Expr>),
     Percent(Box<Expr>, Box<Expr>),
+    Same(Box<Expr>, Box<Expr>),
+    If(Box<Expr>, Box<Expr>, Box<Expr>),
     Get(Box<Expr>, Word),
     Set(Box<Expr>, Word, Box<Expr>),
     Call(Box<Expr>, Word, Vec<Expr>),
@@ -72,9 +74,9 @@ pub struct Table {
 }
 
 /// The words that stand for forms and so can name nothing.
-pub const RESERVED: [&str; 21] = [
+pub const RESERVED: [&str; 23] = [
     "plus", "percent", "get", "set", "call", "send", "ask", "let", "future", "fn", "resolve", "when", "seq", "object",
-    "isolate", "actor", "null", "this", "def", "field", "method",
+    "isolate", "actor", "if", "same", "null", "this", "def", "field", "method",
 ];
 
 /// Fields, and also methods, that a literal can have.

@@ -94,6 +94,8 @@ impl<'t> Reader<'t> {
         let form = match self.token() {
             b"plus" => Expr::Plus(self.boxed()?, self.boxed()?),
             b"percent" => Expr::Percent(self.boxed()?, self.boxed()?),
+            b"same" => Expr::Same(self.boxed()?, self.boxed()?),
+            b"if" => Expr::If(self.boxed()?, self.boxed()?, self.boxed()?),
             b"get" => Expr::Get(self.boxed()?, self.label()?),
             b"set" => Expr::Set(self.boxed()?, self.label()?, self.boxed()?),
             b"call" => Expr::Call(self.boxed()?, self.label()?, self.args()?),
@@ -254,6 +256,11 @@ mod tests {
             "16777216\n",
             "(plus 1)\n",
             "(plus 1 2 3)\n",
+            "(same 1)\n",
+            "(same 1 2 3)\n",
+            "(if 1 2)\n",
+            "(if 1 2 3 4)\n",
+            "(if 1 2 3 )\n",
             "(plus 1  2)\n",
             "(plus 1 2 )\n",
             "( plus 1 2)\n",
@@ -280,6 +287,32 @@ mod tests {
         ] {
             assert_eq!(refusal(text), Some(2), "{text:?}");
         }
+    }
+
+    #[test]
+    fn words_of_forms_name_nothing() {
+        for word in ["if", "same", "plus", "null"] {
+            for text in [
+                format!("(def {word} 1)\n1\n"),
+                format!("(let {word} 1 1)\n"),
+                format!("(future {word} r 1)\n"),
+                format!("(future f {word} 1)\n"),
+                format!("(fn {word} 1)\n"),
+                format!("(when 1 {word} 1)\n"),
+                format!("(get 1 {word})\n"),
+                format!("(set 1 {word} 1)\n"),
+                format!("(call 1 {word} 1)\n"),
+                format!("(send 1 {word})\n"),
+                format!("(ask 1 {word})\n"),
+                format!("(object (field {word} 1))\n"),
+                format!("(actor (method {word} () 1))\n"),
+                format!("(isolate (method m ({word}) 1))\n"),
+            ] {
+                assert_eq!(refusal(&text), Some(2), "{text:?}");
+            }
+            assert_eq!(refusal(&format!("(let {word}1 2 {word}1)\n")), None);
+        }
+        assert_eq!((refusal("if\n"), refusal("(plus same 1)\n")), (Some(2), Some(2)));
     }
 
     #[test]

@@ -59,6 +59,25 @@ const FORMS: &[&str] = &[
     "(let q q 1)",
     "(when q q 1)",
     "(get null set)",
+    "(if 1 2 3)",
+    "(if null (same 1 1) (if 0 1 2))",
+    "(if 1 2)",
+    "(if 1 2 3 4)",
+    "(if)",
+    "(same 1 null)",
+    "(same 1)",
+    "(same 1 2 3)",
+    "(let if 1 2)",
+    "(let same 1 same)",
+    "(fn if if)",
+    "(future same r 1)",
+    "(get null same)",
+    "(call null if 1)",
+    "(object (field same 1))",
+    "(actor (method if () 1))",
+    "(object (method m (same) 1))",
+    "(let iff 1 (if iff iff 2))",
+    "(let sam 1 (same sam 2))",
     "(actor)",
 ];
 /// Bytes to put where they may not belong.
@@ -70,14 +89,15 @@ pub fn input(rng: &mut Rng, whole: Vec<u8>) -> Vec<u8> {
     for _ in 0..rng.pick(&[1, 1, 1, 2, 3]) {
         let start = input.iter().position(|byte| *byte == b'\n').map_or(0, |end| end + 1);
         let mut text = input.split_off(start);
-        match rng.below(20) {
+        match rng.below(22) {
             0 => byte(rng, &mut input),
             1 | 2 => byte(rng, &mut text),
             3..=7 => text = token(rng, &text),
             8..=10 => text = form(rng, &text),
             11 | 12 => text = line(rng, &text),
             13 => text.truncate(rng.below(text.len() as u64 + 1) as usize),
-            _ => text = names(rng, &text),
+            14..=19 => text = names(rng, &text),
+            _ => text = choices(rng, &text),
         }
         input.append(&mut text);
     }
@@ -180,6 +200,30 @@ fn names(rng: &mut Rng, text: &[u8]) -> Vec<u8> {
         ("(fn x", "(fn q"),
         ("(def ", "(seq "),
     ]);
+    replaced(rng, text, from, to)
+}
+
+/// Has words of choices name something, or stand for another operator.
+fn choices(rng: &mut Rng, text: &[u8]) -> Vec<u8> {
+    let (from, to) = rng.pick(&[
+        ("(def ", "(def if"),
+        ("(def x", "(def same"),
+        ("(let x", "(let if"),
+        ("(field a", "(field same"),
+        ("(method go", "(method if"),
+        (" go", " same"),
+        ("(x)", "(same)"),
+        ("(plus ", "(same "),
+        ("(percent ", "(if "),
+        ("(if ", "(let "),
+        ("(if ", "(same "),
+        ("(same ", "(if "),
+        ("(same ", "(plus "),
+    ]);
+    replaced(rng, text, from, to)
+}
+
+fn replaced(rng: &mut Rng, text: &[u8], from: &str, to: &str) -> Vec<u8> {
     String::from_utf8_lossy(text).replacen(from, to, rng.between(1, 3)).into_bytes()
 }
 
@@ -191,8 +235,8 @@ mod tests {
     #[test]
     fn damage_brings_the_causes_of_reading() {
         let (mut rng, mut seen) = (Rng::new(2), [0; 17]);
-        let whole =
-            b"00\n(def x (object (field a 1) (field b 2) (method run (x y) x) (method go () 1)))\n(future f r x)\n";
+        let whole = b"00\n(def x (object (field a 1) (field b 2) (method run (x y) x) (method go () 1)))\n\
+                      (future f r (if x (same x f) 3))\n";
         for _ in 0..2000 {
             let printed = loops(&input(&mut rng, whole.to_vec()));
             if let Some(cause) = printed.strip_prefix(b"(refused ") {

@@ -1,9 +1,13 @@
 //! Scripts that come up to one limit, or one past it.
 
+mod choices;
+mod listings;
+mod texts;
+
 use super::rng::Rng;
 use super::{joined, live, schedule};
-use crate::loops::split;
-use crate::{list, load, read, run};
+
+pub(crate) use listings::listing_of_size;
 
 /// An input for a limit taken at random.
 pub fn input(rng: &mut Rng) -> Vec<u8> {
@@ -23,7 +27,7 @@ pub fn input(rng: &mut Rng) -> Vec<u8> {
 /// Makes a text, and says about how many moves of one actor it takes to get to the limit.
 type Maker = fn(&mut Rng) -> (String, usize);
 
-const MAKERS: [Maker; 26] = [
+const MAKERS: [Maker; 31] = [
     inbox,
     inbox_answered,
     made,
@@ -38,18 +42,23 @@ const MAKERS: [Maker; 26] = [
     late,
     late,
     late,
+    late,
     expression_called,
     expression_made,
     expression_loaded,
     actors,
     actor_expression,
-    text_size,
-    brackets,
-    words,
-    script_nodes,
-    listing,
+    texts::size,
+    texts::brackets,
+    texts::words,
+    texts::nodes,
+    listings::listing,
     second_value,
     foreign,
+    choices::counted,
+    choices::long_parts,
+    choices::identities,
+    choices::identities,
 ];
 
 /// A schedule that lets actor 0 go on for long and then each of the others in turn.
@@ -195,6 +204,8 @@ fn expression_called(rng: &mut Rng) -> (String, usize) {
         "(call this go (call this go x))",
         "(let y (call this go x) (plus x y))",
         "(percent (call this go x) (plus x (plus x x)))",
+        "(if (call this go (plus x 1)) (plus x 1) (same x this))",
+        "(same x (if this (call this go x) (plus x x)))",
     ]);
     let around = rng.between(0, 6);
     let call = "(get ".repeat(around) + "(call o go 0)" + &" a)".repeat(around);
@@ -212,8 +223,14 @@ fn expression_made(rng: &mut Rng) -> (String, usize) {
 }
 
 fn expression_loaded(rng: &mut Rng) -> (String, usize) {
-    let (form, nodes) =
-        rng.pick(&[("(when 1 x 1)", 13), ("(resolve 1 1)", 12), ("(ask 1 m)", 6), ("(fn x x)", 4), ("1", 1)]);
+    let (form, nodes) = rng.pick(&[
+        ("(when 1 x 1)", 13),
+        ("(resolve 1 1)", 12),
+        ("(ask 1 m)", 6),
+        ("(if 0 1 (same 2 3))", 6),
+        ("(fn x x)", 4),
+        ("1", 1),
+    ]);
     let target = 254 + rng.between(0, 4);
     let mut lines = target / (nodes + 1);
     let mut left = target - lines * (nodes + 1);
@@ -239,101 +256,6 @@ fn actor_expression(rng: &mut Rng) -> (String, usize) {
         .map(|at| format!(" (field f{at} (plus {} {}))", body(29), body(rng.between(29, 32))))
         .collect::<String>();
     (format!("(actor{parts})\n"), 5)
-}
-
-/// Exactly so many bytes as wanted: long lines of few nodes, then numbers to fill up.
-fn text_size(rng: &mut Rng) -> (String, usize) {
-    let size = near(rng, 4096);
-    let long = "(object (method abcdefghijkl (abcdefghijkl bcdefghijklm cdefghijklmn) 1))\n";
-    let mut text = long.repeat(size / long.len() - 1);
-    while size - text.len() > 9 {
-        text += "7654321\n";
-    }
-    let last = "9".repeat(size - text.len() - 1);
-    let last = if last.len() > 7 { "null\n12".to_owned() } else { last };
-    (format!("{text}{last}\n"), 120)
-}
-
-fn brackets(rng: &mut Rng) -> (String, usize) {
-    let count = near(rng, 32);
-    let text = match rng.below(4) {
-        0 => format!("{}null{}\n", "(get ".repeat(count), " a)".repeat(count)),
-        1 => format!("(def x {}1{})\nx\n", "(plus 1 ".repeat(count - 1), ")".repeat(count - 1)),
-        2 => format!("{}(object (method m () 1)){}\n", "(seq 1 ".repeat(count - 3), ")".repeat(count - 3)),
-        _ => format!(
-            "{}(object (method m (x) (fn y (plus x y)))){}\n",
-            "(set ".repeat(count - 4),
-            " a 1)".repeat(count - 4)
-        ),
-    };
-    (text, count)
-}
-
-fn words(rng: &mut Rng) -> (String, usize) {
-    let count = near(rng, 64);
-    let defs: String = (0..count).map(|at| format!("(def a{at} {at})\n")).collect();
-    let last = rng.pick(&["1", "(plus a1 a61)", "(fn a0 a0)", "(call null apply)", "(get null b)", "(resolve a1 a2)"]);
-    (format!("{defs}{last}\n"), 20)
-}
-
-fn script_nodes(rng: &mut Rng) -> (String, usize) {
-    let count = 254 + rng.between(0, 4);
-    let last = rng.pick(&["1", "(get null a)", "(plus 1 1)"]);
-    if rng.chance(50) {
-        return ("1\n".repeat(count) + last + "\n", 3);
-    }
-    let wide = "(call null m 1 2 3)\n";
-    let lines = 84 + rng.between(0, 1);
-    (wide.repeat(lines - 12) + &"1\n".repeat(rng.between(32, 40)) + last + "\n", 3)
-}
-
-/// Heaps that take very many bytes to list.
-fn listing(rng: &mut Rng) -> (String, usize) {
-    let count = rng.between(2, 3);
-    (wide_heaps(rng.between(19, 24), count), 100)
-}
-
-/// Actors that fill their heaps with methods of long words.
-fn wide_heaps(layers: usize, actors: usize) -> String {
-    let wide = "(future abcdefghijkl bcdefghijklm ".repeat(layers) + "1" + &")".repeat(layers);
-    let actor = format!("(actor (method go () (seq (object (method m () {wide})) (call this go))))");
-    format!("(def o (fn x {actor}))\n{}", "(send (call o apply 1) go)\n".repeat(actors))
-}
-
-/// An input whose listing has a size, found by running it: first moves until little is missing, then longer words.
-pub(crate) fn listing_of_size(size: usize) -> Vec<u8> {
-    let input = |moves: usize, more: usize| {
-        let line = "0".repeat(40) + &"1".repeat(100) + &"2".repeat(100) + &"3".repeat(moves);
-        joined(&line, (padding(more) + &wide_heaps(22, 3)).as_bytes())
-    };
-    let missing = |moves: usize| size.checked_sub(listed(&input(moves, 0))).filter(|missing| *missing <= PADDING);
-    let found = (0..100).rev().find_map(|moves| missing(moves).map(|missing| (moves, missing)));
-    let (moves, more) = found.unwrap_or((100, 0));
-    input(moves, more)
-}
-
-/// Bytes that `padding` can add.
-const PADDING: usize = 5 * 4 * 4 * 11;
-
-/// Objects with short names, made longer by so many letters in all.
-fn padding(mut more: usize) -> String {
-    let mut word = |letter: char| {
-        let letters = more.min(11);
-        more -= letters;
-        std::iter::repeat_n(letter, letters + 1).collect::<String>()
-    };
-    let mut method = |name| format!(" (method {} ({} {} {}) 1)", word(name), word('x'), word('y'), word('z'));
-    (0..5).map(|_| format!("(object{})\n", ['a', 'b', 'c', 'd'].map(&mut method).concat())).collect()
-}
-
-/// Bytes of the listing that an input ends in, whether it may be printed or not.
-fn listed(input: &[u8]) -> usize {
-    let ran = split(input).and_then(|(schedule, text)| {
-        let mut state = load(&read(text).ok()?).ok()?;
-        run(&mut state, &schedule);
-        Some(list(&state).len())
-    });
-    ran.unwrap_or(0)
 }
 
 /// Messages that come to a future before and after it has its value.
@@ -388,6 +310,7 @@ fn second_value(rng: &mut Rng) -> (String, usize) {
 #[cfg(test)]
 mod tests {
     use super::*;
+    use crate::read;
 
     #[test]
     fn texts_are_good_or_too_large() {
@@ -397,23 +320,6 @@ mod tests {
                 let (text, _) = make(&mut rng);
                 assert!([None, Some(1), Some(5)].contains(&read(text.as_bytes()).err()), "maker {at}:\n{text}");
             }
-        }
-    }
-
-    #[test]
-    fn texts_have_the_size_asked_for() {
-        let mut rng = Rng::new(4);
-        let sizes: Vec<usize> = (0..100).map(|_| text_size(&mut rng).0.len()).collect();
-        assert!((4094..=4097).all(|size| sizes.contains(&size)));
-        assert!(sizes.iter().all(|size| (4094..=4097).contains(size)));
-    }
-
-    #[test]
-    fn listings_have_the_size_asked_for() {
-        for size in [65_535, 65_536, 65_537] {
-            let input = listing_of_size(size);
-            assert_eq!(listed(&input), size);
-            assert_eq!(crate::loops(&input) == b"(refused 6)\n", size > 65_536);
         }
     }
 

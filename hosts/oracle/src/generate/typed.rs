@@ -4,6 +4,9 @@
 //! that receivers mostly have the fields and methods that are asked of them. Now and then the kind is ignored: that is
 //! where the refusals come from.
 
+mod choices;
+mod literals;
+
 use super::rng::Rng;
 
 /// What an expression should come to.
@@ -93,10 +96,11 @@ impl Writer<'_> {
         if fuel == 0 || self.rng.chance(15) {
             return self.leaf(kind);
         }
-        match self.rng.below(12) {
+        match self.rng.below(13) {
             0 => self.bind(kind, fuel - 1),
             1 => self.pair("seq", None, kind, fuel - 1),
             2 => self.future(kind, fuel - 1),
+            3 => self.choice(kind, fuel - 1),
             _ => self.form(kind, fuel - 1),
         }
     }
@@ -149,7 +153,7 @@ impl Writer<'_> {
     }
 
     fn number_form(&mut self, fuel: usize) {
-        match self.rng.below(8) {
+        match self.rng.below(9) {
             0 | 1 => self.pair("plus", Some(Kind::Number), Kind::Number, fuel),
             2 => self.pair("percent", Some(Kind::Number), Kind::Number, fuel),
             3 => {
@@ -170,6 +174,7 @@ impl Writer<'_> {
                 let holder = self.holder();
                 self.invocation("call", holder, "go", 1, fuel);
             }
+            7 => self.comparison(fuel),
             _ => self.invocation("call", Kind::Function, "apply", 1, fuel),
         }
     }
@@ -290,62 +295,6 @@ impl Writer<'_> {
         self.text(&format!("(fn {word} "));
         self.under(&[(word, Kind::Number)], |writer| writer.expr(Kind::Number, fuel));
         self.text(")");
-    }
-
-    /// A literal; parts of an actor or an isolate see only what is bound in it, unless this is the rare one that breaks
-    /// the rule.
-    fn literal(&mut self, operator: &str, kind: Kind, fuel: usize) {
-        let inside = if kind == Kind::Actor { Kind::Object } else { kind };
-        let this = self.this.replace(inside);
-        let open = kind == Kind::Object || self.rng.below(400) == 0;
-        let outer = if open { None } else { Some(std::mem::take(&mut self.scope)) };
-        self.text(&format!("({operator}"));
-        self.fields(fuel);
-        self.methods(fuel);
-        self.text(")");
-        self.this = this;
-        if let Some(scope) = outer {
-            self.scope = scope;
-        }
-    }
-
-    fn fields(&mut self, fuel: usize) {
-        let most = if fuel == 0 { 1 } else { 4 };
-        for (at, field) in FIELDS.iter().enumerate().take(most) {
-            if self.rng.chance(if at == 0 { 97 } else { 30 }) {
-                let kind = if at == 0 { Kind::Number } else { self.kind() };
-                self.text(&format!(" (field {field} "));
-                self.expr(kind, fuel.min(2));
-                self.text(")");
-            }
-        }
-    }
-
-    fn methods(&mut self, fuel: usize) {
-        let (most, mut left) = (if fuel == 0 { 1 } else { METHODS.len() }, 4);
-        for (at, (name, params)) in METHODS.iter().enumerate().take(most) {
-            if left > 0 && self.rng.chance(if at == 0 { 97 } else { 35 }) {
-                left -= 1;
-                self.one_method(name, *params, fuel);
-            }
-        }
-    }
-
-    fn one_method(&mut self, name: &str, params: usize, fuel: usize) {
-        let words = &["x", "y", "z"][..params];
-        let kinds: Vec<_> = words.iter().map(|word| (*word, self.param(name))).collect();
-        self.text(&format!(" (method {name} ({}) ", words.join(" ")));
-        let kind = if name == "go" || name == "apply" { Kind::Number } else { self.kind() };
-        self.under(&kinds, |writer| writer.expr(kind, fuel.min(2)));
-        self.text(")");
-    }
-
-    fn param(&mut self, name: &str) -> Kind {
-        match name {
-            "go" | "apply" => Kind::Number,
-            _ if self.rng.chance(50) => Kind::Isolate,
-            _ => self.kind(),
-        }
     }
 
     fn under(&mut self, binders: &[(&'static str, Kind)], body: impl FnOnce(&mut Self)) {

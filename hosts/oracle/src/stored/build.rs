@@ -79,3 +79,11 @@ pub fn fill_waiting(state: &mut State, future: u8, count: usize) {
         messages.resize_with(count, || message.clone());
     }
 }
+
+/// An expression of so many nodes: a chain of gets within brackets that a text may have, and sums of such chains.
+pub fn written(nodes: usize) -> String {
+    match nodes {
+        0..=20 => format!("{}1{}", "(get ".repeat(nodes.max(1) - 1), " a)".repeat(nodes.max(1) - 1)),
+        _ => format!("(plus {} {})", written(20), written(nodes - 21)),
+    }
+}

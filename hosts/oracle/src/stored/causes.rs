@@ -78,6 +78,9 @@ fn numbers() -> Vec<Case> {
         case("10-or-16", "(get null a)\n", Rule::Get, 10).change(|state| state.actors[0].moves = most::MOVES),
         case("sent-10", "(send null m)\n", Rule::SendOwn, 10).change(|state| state.actors[0].moves = most::MOVES),
         case("res-obj", "(resolve (object) 5)\n", Rule::CallResolve, 12),
+        case("if-asks", "(if (plus null 1) 2 3)\n", Rule::Plus, 15),
+        case("same-asks", "(same 1 (get 2 a))\n", Rule::Get, 10),
+        case("if-taken", "(if (same 1 1) (plus 1 null) 2)\n", Rule::Plus, 15),
     ]
 }
 

@@ -9,22 +9,24 @@ use crate::term::Term;
 pub fn groups() -> Vec<Group> {
     let group = |name, cases| Group { name, cases };
     vec![
-        group("moves", moves()),
+        group("moves", moves().into_iter().chain(choosing_moves()).collect()),
         group("inboxes", inboxes()),
         group("entities", entities()),
         group("bodies", method_bodies()),
-        group("nodes", nodes()),
+        group("nodes", nodes().into_iter().chain(choosing_nodes()).collect()),
         group("actors", actors()),
     ]
 }
 
 const FULL: Move = Err(16);
 
+/// A move of an actor that has made so many.
+fn last(name: &'static str, text: &str, rule: Rule, answer: Move, moves: u32) -> Case {
+    Case::new(name, text, rule, answer).change(move |state| state.actors[0].moves = moves)
+}
+
 /// The last move, by several rules; a receiver that can move no more still gets its message.
 fn moves() -> Vec<Case> {
-    let last = |name, text: &str, rule, answer, moves: u32| {
-        Case::new(name, text, rule, answer).change(move |state| state.actors[0].moves = moves)
-    };
     let (most, ask) = (most::MOVES, "(ask (object (method m () 1)) m)\n");
     let other = "(send (actor) m (isolate (field a 1)))\n";
     vec![
@@ -57,6 +59,19 @@ fn moves() -> Vec<Case> {
         last("take", "(send (object) m)\n", Rule::TakeCall, FULL, most),
         last("take-ask", ask, Rule::TakeTwoWay, FULL, most),
         last("wait", "(future f r (send f m))\n", Rule::TakeWait, FULL, most),
+    ]
+}
+
+/// The same of comparing and choosing.
+fn choosing_moves() -> Vec<Case> {
+    let most = most::MOVES;
+    vec![
+        last("same-last", "(same 1 2)\n", Rule::Same, INNER, most - 1),
+        last("same", "(same null (object))\n", Rule::Same, FULL, most),
+        last("yes-last", "(if 1 (plus 2 3) 4)\n", Rule::IfYes, INNER, most - 1),
+        last("if-yes", "(if 1 (plus 2 3) 4)\n", Rule::IfYes, FULL, most),
+        last("no-last", "(if null 1 2)\n", Rule::IfNo, INNER, most - 1),
+        last("if-no", "(if null 1 2)\n", Rule::IfNo, FULL, most),
     ]
 }
 
@@ -158,15 +173,17 @@ fn widened(state: &mut State, nodes: usize) {
     state.actors[0].expression = around(expression, gets);
 }
 
+/// A move in an expression of so many nodes.
+fn wide(name: &'static str, text: &str, rule: Rule, answer: Move, nodes: usize) -> Case {
+    Case::new(name, text, rule, answer).change(move |state| {
+        if Rule::of(state, 0) == rule {
+            widened(state, nodes);
+        }
+    })
+}
+
 /// Nodes of expressions: of the mover, which a rule makes larger, and of a new actor.
 fn nodes() -> Vec<Case> {
-    let wide = |name, text: &str, rule, answer, nodes| {
-        Case::new(name, text, rule, answer).change(move |state| {
-            if Rule::of(state, 0) == rule {
-                widened(state, nodes);
-            }
-        })
-    };
     // A call of three nodes becomes a body of seven.
     let call = "(call (object (method a (x) (plus x (plus x (plus x x))))) a 1)\n";
     // A literal of four nodes becomes updates of nine.
@@ -198,6 +215,16 @@ fn nodes() -> Vec<Case> {
     ]
 }
 
+/// Comparing and choosing, which make an expression shorter, in the longest ones.
+fn choosing_nodes() -> Vec<Case> {
+    vec![
+        wide("same-256", "(same 1 1)\n", Rule::Same, INNER, 256),
+        wide("yes-256", "(if 1 (plus 2 3) (get 4 a))\n", Rule::IfYes, INNER, 256),
+        wide("no-256", "(if 0 (plus 2 3) (get 4 a))\n", Rule::IfNo, INNER, 256),
+        Case::new("parts-256", format!("(if 1 {} {})\n", written(127), written(127)), Rule::IfYes, INNER),
+    ]
+}
+
 /// A resolving call in the middle of gets, so many that the messages that waited just fit; or more of them.
 fn resolving_wide(name: &'static str, text: &str, answer: Move, more: usize) -> Case {
     Case::new(name, text, Rule::CallResolve, answer).order("0").change(move |state| {
@@ -208,14 +235,6 @@ fn resolving_wide(name: &'static str, text: &str, answer: Move, more: usize) -> 
             widened(state, 256 - after + 3 + more);
         }
     })
-}
-
-/// An expression of so many nodes: a chain of gets within brackets that a text may have, and sums of such chains.
-fn written(nodes: usize) -> String {
-    match nodes {
-        0..=20 => format!("{}1{}", "(get ".repeat(nodes.max(1) - 1), " a)".repeat(nodes.max(1) - 1)),
-        _ => format!("(plus {} {})", written(20), written(nodes - 21)),
-    }
 }
 
 fn actors() -> Vec<Case> {

@@ -15,6 +15,7 @@
 
 mod build;
 mod causes;
+mod choices;
 mod limits;
 mod rules;
 

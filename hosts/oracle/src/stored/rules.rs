@@ -1,14 +1,14 @@
 //! A move by each rule.
 
 use super::build::*;
-use super::{Case, Group};
+use super::{choices, Case, Group};
 use crate::census::Rule;
 use crate::state::*;
 
 pub fn groups() -> Vec<Group> {
     let group = |name, cases| Group { name, cases };
     vec![
-        group("numbers", numbers()),
+        group("numbers", numbers().into_iter().chain(choices::cases()).collect()),
         group("names", names()),
         group("heap", heap()),
         group("literals", literals()),
@@ -54,6 +54,8 @@ fn names() -> Vec<Case> {
         bind("let-deep", "(get (plus 1 (let x 2 (call x m x))) a)\n"),
         bind("seq", "(seq 1 (let s 2 s))\n"),
         bind("let-fn", "(let x 3 (fn y (plus x y)))\n"),
+        bind("let-if", "(let x 5 (if x (let y x (same x y)) (let x x (if 0 x x))))\n"),
+        bind("let-same", "(let x (object) (same x (same 1 x)))\n"),
     ]
 }
 
@@ -62,6 +64,7 @@ fn heap() -> Vec<Case> {
     let four = "(object (field a 1) (field b null) (field c this) (field d 4) (method m () 1) (method a (x) x) \
                 (method b (x y z) (plus (get this a) (call z m y x))) (method d () (object (method m (w) this))))";
     let on = |body: &str| format!("(let o {four} {body})\n");
+    let chooser = "(object (method m (x y) (if (same x this) (if y this x) (fn x (same x (if this y 1))))))";
     let there = "(def a (actor (method m (x) (seq (set x b 9) (plus (get x a) (call x n 3))))))\n\
                  (send a m (isolate (field a 1) (field b null) (method n (y) (seq y this))))\n";
     let copy = |name, rule| Case::new(name, there, rule, INNER).order("01").mover(1);
@@ -80,6 +83,7 @@ fn heap() -> Vec<Case> {
         Case::new("call-3", on("(plus (call o b 1 2 o) 1)"), call, INNER),
         Case::new("call-obj", on("(call o d)"), call, INNER),
         Case::new("call-fn", "(call (fn x (seq this (plus x 1))) apply 4)\n", call, INNER),
+        Case::new("call-if", format!("(call {chooser} m 4 null)\n"), call, INNER),
         copy("call-copy", call),
     ]
 }
@@ -89,6 +93,9 @@ fn literals() -> Vec<Case> {
                  (method m (x y z) (plus x y)) (method n () (set this a 1))";
     let more = "(def a (actor (method go () (actor (field f this)))))\n(send a go)\n";
     let all = |kind: &str| format!("(get ({kind} {parts}) a)\n");
+    let chooser = |kind: &str| {
+        format!("({kind} (field a (if this 1 (same this 2))) (method m (x) (if x (same this x) (if 0 1 x))))\n")
+    };
     vec![
         Case::new("object", "(object)\n", Rule::Object, INNER),
         Case::new("obj-parts", all("object"), Rule::Object, INNER),
@@ -110,6 +117,8 @@ fn literals() -> Vec<Case> {
         Case::new("actor-2", "(actor)\n(actor (field f null))\n", Rule::Actor, created(2)),
         Case::new("actor-3", "(actor)\n(actor)\n(plus 1 (actor (method m () this)))\n", Rule::Actor, created(3)),
         Case::new("by-actor", more, Rule::Actor, created(2)).order("01").mover(1),
+        Case::new("obj-if", chooser("object"), Rule::Object, INNER),
+        Case::new("act-if", chooser("actor"), Rule::Actor, created(1)),
     ]
 }
 
@@ -190,6 +199,7 @@ fn isolates() -> Vec<Case> {
         Case::new("own-chain", format!("(send (object) m {chain})\n"), own, sent(0)),
         Case::new("two-way", format!("(def a (actor))\n(def i {chain})\n(ask a m i 2 i)\n"), Rule::SendTwoWay, sent(1)),
         Case::new("register", "(when (actor) x x)\n", Rule::SendRegister, sent(1)),
+        Case::new("choosing", "(send (actor) m (isolate (method m (x) (if x (same x this) 3))))\n", other, sent(1)),
         Case::new(
             "deep",
             "(send (actor) m (isolate (field a (isolate (field a (isolate)) (field b (isolate)))) \
@@ -270,6 +280,7 @@ fn futures() -> Vec<Case> {
         Case::new("future-2", "(get (future f r (future f s (plus f (call r m s)))) a)\n", Rule::Future, INNER),
         Case::new("future-in", "(get (future f r (future f s (plus f (call r m s)))) a)\n", Rule::Future, INNER)
             .wanted(|state| state.actors[0].made.len() == 2),
+        Case::new("future-if", "(future f r (if f (same f r) (let f r (same f r))))\n", Rule::Future, INNER),
         Case::new("open", "(future f r (send f m 1 2 3))\n", wait, TAKEN),
         Case::new("first", two, wait, TAKEN),
         Case::new("before", two, wait, TAKEN).wanted(waiting(1)),
