@@ -1,9 +1,13 @@
 //! Changes in a state of the plain engine, so that its words are well laid out and only what they say may be wrong.
 
+mod terms;
+
 use oracle::generate::rng::Rng;
 use oracle::script::Word;
 use oracle::state::*;
-use oracle::term::{Hidden, Literal, Method, Name, Term, Var};
+use oracle::term::{Hidden, Method, Name, Term, Var};
+
+use terms::{expression, method, nested};
 
 /// Changes something in an actor, or the number of actors. What comes out still has room in the words of a state.
 pub fn state(rng: &mut Rng, state: &mut State) {
@@ -97,72 +101,6 @@ fn resolved(rng: &mut Rng, state: &State) -> Value {
     rng.pick(&found)
 }
 
-/// A small term.
-fn term(rng: &mut Rng, state: &State, depth: u64) -> Term {
-    let part = |rng: &mut Rng| term(rng, state, depth.saturating_sub(1));
-    let forms = if depth == 0 { 3 } else { 13 };
-    match rng.below(forms) {
-        0 => Term::Value(value(rng, state)),
-        1 => Term::Var(var(rng, state)),
-        2 => Term::This,
-        3 => Term::Plus(Box::new((part(rng), part(rng)))),
-        4 => Term::Get(word(rng, state), Box::new(part(rng))),
-        5 => Term::Set(word(rng, state), Box::new((part(rng), part(rng)))),
-        6 => Term::bind(var(rng, state), part(rng), part(rng)),
-        7 => Term::Future(var(rng, state), var(rng, state), Box::new(part(rng))),
-        8 | 9 => {
-            let args = (0..rng.below(3)).map(|_| part(rng)).collect();
-            let (receiver, name) = (part(rng), name(rng, state));
-            if rng.chance(30) {
-                Term::call(receiver, name, args)
-            } else {
-                Term::send(receiver, name, args)
-            }
-        }
-        kind => {
-            let fields = (0..rng.below(3)).map(|_| (word(rng, state), part(rng))).collect();
-            let methods = (0..rng.below(2)).map(|_| method(rng, state, depth)).collect();
-            let literal = Box::new(Literal { fields, methods });
-            match kind {
-                10 => Term::Object(literal),
-                11 => Term::Isolate(literal),
-                _ => Term::Actor(literal),
-            }
-        }
-    }
-}
-
-/// A term about as large as `most` nodes, each of them inside the one before.
-fn nested(rng: &mut Rng, state: &State, most: usize) -> Term {
-    let nodes = most + rng.below(4) as usize - 2;
-    let (form, word, var) = (rng.below(6), word(rng, state), var(rng, state));
-    let mut term = Term::default();
-    let mut count = 1;
-    while count < nodes {
-        let two = form > 3 && count + 2 <= nodes;
-        count += if two { 2 } else { 1 };
-        let mut literal = Box::new(Literal::default());
-        term = match form {
-            4 if two => Term::Plus(Box::new((term, Term::number(1)))),
-            5 if two => Term::bind(var, term, Term::default()),
-            0 | 4 | 5 => Term::Get(word, Box::new(term)),
-            1 => {
-                literal.fields.push((word, term));
-                Term::Object(literal)
-            }
-            form => {
-                literal.methods.push(Method::new(word, vec![var], term));
-                if form == 2 {
-                    Term::Isolate(literal)
-                } else {
-                    Term::Actor(literal)
-                }
-            }
-        };
-    }
-    term
-}
-
 /// Leaves an actor one entity, whose methods come up to their limit or just past it.
 fn large_methods(rng: &mut Rng, state: &State, actor: &mut Actor) {
     let body = nested(rng, state, most::BODY_NODES);
@@ -174,60 +112,6 @@ fn large_methods(rng: &mut Rng, state: &State, actor: &mut Actor) {
     actor.inbox.clear();
     if rng.chance(80) {
         actor.expression = Term::default();
-    }
-}
-
-fn method(rng: &mut Rng, state: &State, depth: u64) -> Method {
-    let params = (0..rng.below(3)).map(|_| var(rng, state)).collect();
-    Method::new(word(rng, state), params, term(rng, state, depth.saturating_sub(1)))
-}
-
-/// Puts a small term somewhere in a term, or changes a name there.
-fn expression(rng: &mut Rng, state: &State, whole: &mut Term) {
-    let mut at = rng.below(whole.nodes() as u64) as usize;
-    let depth = rng.below(3);
-    let instead = term(rng, state, depth);
-    let (named, of_word, of_var) = (name(rng, state), word(rng, state), var(rng, state));
-    let replace = rng.chance(60);
-    nth(whole, &mut at, &mut |found| match found {
-        _ if replace => *found = instead.clone(),
-        Term::Call(invocation) | Term::Send(invocation) => invocation.name = named,
-        Term::Get(name, _) | Term::Set(name, _) => *name = of_word,
-        Term::Let(name, _) | Term::Future(name, _, _) => *name = of_var,
-        _ => *found = instead.clone(),
-    });
-}
-
-/// Does something to the node of that number, counted as they are written.
-fn nth(term: &mut Term, at: &mut usize, change: &mut dyn FnMut(&mut Term)) {
-    if *at == 0 {
-        *at = usize::MAX;
-        return change(term);
-    }
-    *at -= 1;
-    for part in parts(term) {
-        if *at == usize::MAX {
-            return;
-        }
-        nth(part, at, change);
-    }
-}
-
-fn parts(term: &mut Term) -> Vec<&mut Term> {
-    match term {
-        Term::Value(_) | Term::Var(_) | Term::This => Vec::new(),
-        Term::Plus(pair) | Term::Percent(pair) | Term::Set(_, pair) | Term::Let(_, pair) => {
-            let (first, second) = &mut **pair;
-            vec![first, second]
-        }
-        Term::Get(_, part) | Term::Future(_, _, part) => vec![part],
-        Term::Call(invocation) | Term::Send(invocation) => {
-            std::iter::once(&mut invocation.receiver).chain(&mut invocation.args).collect()
-        }
-        Term::Object(literal) | Term::Isolate(literal) | Term::Actor(literal) => {
-            let fields = literal.fields.iter_mut().map(|(_, init)| init);
-            fields.chain(literal.methods.iter_mut().map(|method| &mut method.body)).collect()
-        }
     }
 }
 

@@ -4,7 +4,7 @@ use oracle::generate::rng::Rng;
 use oracle::generate::{joined, live, schedule};
 
 /// Bodies of the methods. What they are given is not always what they ask of it.
-const GO: [&str; 14] = [
+const GO: [&str; 18] = [
     "(send x go y this)",
     "(send y go this x)",
     "(send x put (plus (get this n) 1))",
@@ -19,19 +19,33 @@ const GO: [&str; 14] = [
     "(send this put 5)",
     "(set this k (actor (field n 1) (method put (v) (set this n v))))",
     "(future f r (seq (send x keep f) (resolve r y)))",
+    "(if (same x y) (send x put 3) (send y go x x))",
+    "(if (same x (get this k)) (send y keep null) (set this k x))",
+    "(if (get this n) (seq (set this n 0) (send x go this y)) (send this put 1))",
+    "(when (ask x tell y) v (if v (send y keep v) (send x keep (same v null))))",
 ];
-const PUT: [&str; 6] = [
+const PUT: [&str; 8] = [
     "(set this n v)",
     "(set this n (plus (get this n) v))",
     "v",
     "(send this keep v)",
     "(percent v 50)",
     "(send v put 1)",
+    "(if (same v (get this n)) 0 (set this n v))",
+    "(set this n (if v (plus 1 (same v 1)) (get this k)))",
 ];
-const KEEP: [&str; 6] =
-    ["(set this k v)", "(get v l)", "(send this put (get this k))", "v", "(set v l v)", "(send (get this k) put v)"];
+const KEEP: [&str; 8] = [
+    "(set this k v)",
+    "(get v l)",
+    "(send this put (get this k))",
+    "v",
+    "(set v l v)",
+    "(send (get this k) put v)",
+    "(send this put (same v (get this k)))",
+    "(if (get this k) (send (get this k) keep v) (set this k v))",
+];
 /// What is asked for; the last two come to null.
-const TELL: [&str; 9] = [
+const TELL: [&str; 11] = [
     "(get this n)",
     "(seq (send x put 1) 7)",
     "this",
@@ -39,11 +53,13 @@ const TELL: [&str; 9] = [
     "(ask x tell this)",
     "(get this k)",
     "(object (field n 1))",
+    "(same x this)",
+    "(if (same x (get this k)) this (get this k))",
     "(seq (set this n 2) null)",
     "(send x put 2)",
 ];
 /// Lines after the definitions of the actors.
-const LINES: [&str; 14] = [
+const LINES: [&str; 16] = [
     "(send a go b c)",
     "(send b go c a)",
     "(send c go a b)",
@@ -58,6 +74,8 @@ const LINES: [&str; 14] = [
     "(when (ask b tell c) v (when (ask c tell a) w (send a put v)))",
     "(when null v (send a keep v))",
     "(future f r (seq (send b keep f) (resolve r null)))",
+    "(if (same a b) (send c go a a) (send a go c b))",
+    "(future f r (if f (seq (send a keep f) (resolve r (same f r))) 0))",
 ];
 
 /// A schedule line and a script.

@@ -1,6 +1,7 @@
 //! Words that are no table or state, or are one by chance: changed, mixed and made up.
 
 use oracle::generate::rng::Rng;
+use oracle::script::RESERVED;
 use oracle::words::{encode, encode_table, STATE, TABLE};
 use oracle::{State, Table};
 
@@ -14,6 +15,9 @@ const PART: usize = 3_200;
 
 /// Where the regions of an actor's part begin and how long the things in them are.
 const REGIONS: [(usize, usize); 8] = [(0, 1), (16, 1), (528, 6), (624, 6), (720, 8), (976, 8), (1_104, 1), (2_640, 1)];
+
+/// The kinds of operators that name nothing, and the first ones behind them, which no node has.
+const OPERATORS: [u32; 7] = [7, 8, 18, 19, 20, 21, 22];
 
 /// Lends changed words of states to the calls; gives the states that some of them are.
 pub fn states(checked: &mut Checked, states: &[State]) -> Result<Vec<State>, Differs> {
@@ -92,9 +96,56 @@ fn used(rng: &mut Rng, words: &[u32]) -> usize {
     (0..words.len()).filter(|at| words[*at] != 0).nth(which).unwrap_or(0)
 }
 
+/// Gives an operator that names nothing the kind of another, a payload, which none of them has, or another number of
+/// operands.
+fn operator(rng: &mut Rng, words: &mut [u32], is_state: bool) {
+    let is_operator = |at: &usize| OPERATORS.contains(&(words[*at] >> 24));
+    let found: Vec<usize> = (HEAD..words.len() - 2).filter(is_operator).collect();
+    if found.is_empty() {
+        return;
+    }
+    let at = rng.pick(&found);
+    match rng.below(10) {
+        0..=4 => words[at] = words[at] & 0xff_ffff | rng.pick(&OPERATORS) << 24,
+        5 => words[at] |= 1 << rng.below(24),
+        way => operands(words, at, is_state, way < 8),
+    }
+}
+
+/// Puts a word behind an operator and makes that an if, or takes the word behind it away and makes it a same; the words
+/// of the table or the expression are counted anew. It is right where the operator had two operands before, or three.
+fn operands(words: &mut [u32], at: usize, is_state: bool, more: bool) {
+    let end = (at..words.len() - 1).find(|place| words[*place] == 0).unwrap_or(words.len() - 2);
+    let count = if is_state { HEAD + (at - HEAD) / PART * PART + 5 } else { 2 };
+    if more {
+        words.copy_within(at + 1..end.max(at + 1), at + 2);
+        (words[at], words[at + 1]) = (19 << 24, 1 << 24);
+        words[count] = words[count].wrapping_add(1);
+    } else {
+        words.copy_within(at + 2..(end + 1).max(at + 2), at + 1);
+        words[at] = 18 << 24;
+        words[count] = words[count].wrapping_sub(1);
+    }
+}
+
+/// Makes an entry of the dictionary a word that stands for a form, or one that only looks like it.
+fn dictionary(rng: &mut Rng, words: &mut [u32], is_state: bool) {
+    let (count, first) = if is_state { (words[1], 2) } else { (words[0], 3) };
+    let entry = first + 3 * rng.below(u64::from(count.clamp(1, 64))) as usize;
+    let word = if rng.chance(70) { rng.pick(&RESERVED) } else { rng.pick(&["iff", "i", "sam", "same1", "apply"]) };
+    let mut bytes = [0; 12];
+    bytes[..word.len()].copy_from_slice(word.as_bytes());
+    for (place, four) in words[entry..entry + 3].iter_mut().zip(bytes.chunks(4)) {
+        *place = u32::from_le_bytes([four[0], four[1], four[2], four[3]]);
+    }
+}
+
 /// A node that may stand somewhere.
 fn node(rng: &mut Rng) -> u32 {
-    let kind = rng.pick(&[1, 2, 3, 6, 7, 8, 9, 10, 11, 12, 13, 14, 15, 16, 17, 64, 65, 66, 67, 68, 128, 130, 192]);
+    let kind = match rng.below(5) {
+        0 => rng.pick(&OPERATORS),
+        _ => rng.pick(&[1, 2, 3, 6, 7, 8, 9, 10, 11, 12, 13, 14, 15, 16, 17, 64, 65, 66, 67, 68, 128, 130, 192]),
+    };
     let payload = rng.pick(&[0, 1, 7, 8, 9, 1 << 7, 1 << 9, 1 << 16, 1 << 17, 0xff_ffff]) + rng.below(10) as u32;
     kind << 24 | payload & 0xff_ffff
 }
@@ -102,14 +153,14 @@ fn node(rng: &mut Rng) -> u32 {
 /// One change. Most words of a state are 0, so what is changed is mostly sought among those that are not.
 fn change(rng: &mut Rng, words: &mut [u32], other: &[u32], is_state: bool) {
     let (at, from) = (used(rng, words), used(rng, words));
-    match rng.below(20) {
+    match rng.below(23) {
         0 => words[rng.below(words.len() as u64) as usize] = rng.below(1 << 32) as u32,
         1 | 2 => words[at] ^= 1 << rng.below(32),
         3 => words[at] = words[at].wrapping_add(1),
         4 => words[at] = words[at].wrapping_sub(1),
         5 | 6 => words[at] = words[from],
         7 => words[at] = words[at] & !0xff_ffff | rng.below(40) as u32,
-        8 => words[at] = words[at] & 0xff_ffff | (rng.below(20) as u32) << 24,
+        8 => words[at] = words[at] & 0xff_ffff | (rng.below(24) as u32) << 24,
         9 | 10 => words[at] = node(rng),
         11 => words[(at + 1) % words.len()] = node(rng),
         12 => words[rng.below(4) as usize] = rng.below(70) as u32,
@@ -123,6 +174,8 @@ fn change(rng: &mut Rng, words: &mut [u32], other: &[u32], is_state: bool) {
         17 if is_state => regions(rng, words, other),
         18 if is_state => counts(rng, words),
         17 | 18 => words[at] = other[at],
+        19 | 20 => operator(rng, words, is_state),
+        21 => dictionary(rng, words, is_state),
         _ if rng.chance(50) => words.fill_with(|| rng.below(1 << 32) as u32),
         _ => deep(rng, words, at),
     }

@@ -3,13 +3,17 @@
 //! Words are taken apart with as little care as keeps this from failing; what comes out counts only if it is good by the
 //! plain engine's own tests and has exactly these words again. So a cell that nothing looks at here is looked at there.
 
+mod table;
+
 use std::sync::Arc;
 
 use oracle::invariant;
-use oracle::script::{self, Expr, Field, Line, Script, Table, Word, MOST_LETTERS, RESERVED};
+use oracle::script::{Word, MOST_LETTERS, RESERVED};
 use oracle::state::*;
 use oracle::term::{Hidden, Invocation, Literal, Method, Name, Term, Var};
-use oracle::words::{encode, encode_table, STATE, TABLE};
+use oracle::words::{encode, STATE};
+
+pub use table::table;
 
 const HEAD: usize = 256;
 const PART: usize = 3_200;
@@ -36,18 +40,6 @@ fn are_words(dictionary: &[String]) -> bool {
     let named = |word: &String| is_word(word) && word != "apply" && !RESERVED.contains(&word.as_str());
     let twice = (1..dictionary.len()).any(|at| dictionary[..at].contains(&dictionary[at]));
     dictionary.len() <= MOST_WORDS && !twice && dictionary.iter().all(named)
-}
-
-/// The table that the first words are: its text is accepted, and has these words.
-pub fn table(words: &[u32]) -> Option<Table> {
-    let words = words.get(..TABLE)?;
-    let dictionary = dictionary(words[0] as usize, &words[3..HEAD])?;
-    let known = dictionary.len();
-    let mut nodes = Nodes { words: words[HEAD..].get(..words[2] as usize)?, known };
-    let lines = (0..words[1]).map(|_| nodes.line()).collect::<Option<_>>()?;
-    let found = Table { words: [dictionary, vec!["apply".to_owned()]].concat(), script: Script { lines } };
-    let table = oracle::read(&oracle::print(&found)).ok()?;
-    (encode_table(&table) == words).then_some(table)
 }
 
 fn dictionary(known: usize, words: &[u32]) -> Option<Vec<String>> {
@@ -218,75 +210,10 @@ impl Nodes<'_> {
             15 => Term::Object(self.literal(payload)?),
             16 => Term::Isolate(self.literal(payload)?),
             17 => Term::Actor(self.literal(payload)?),
+            18 => Term::Same(self.pair()?),
+            19 => Term::If(Box::new([self.term()?, self.term()?, self.term()?])),
             _ => return None,
         })
-    }
-
-    fn line(&mut self) -> Option<Line> {
-        let header = *self.words.first()? as usize;
-        if header >> 24 != 130 {
-            return self.expr().map(Line::Expr);
-        }
-        self.next()?;
-        Some(Line::Def(self.word(header & 0xff_ffff)?, self.expr()?))
-    }
-
-    fn boxed(&mut self) -> Option<Box<Expr>> {
-        self.expr().map(Box::new)
-    }
-
-    fn args(&mut self, payload: usize) -> Option<Vec<Expr>> {
-        (0..payload >> 9).map(|_| self.expr()).collect()
-    }
-
-    /// An expression of a table.
-    fn expr(&mut self) -> Option<Expr> {
-        let (kind, payload) = self.node()?;
-        let name = self.word(payload & 127);
-        Some(match kind {
-            1 => Expr::Null,
-            2 => Expr::Number(payload as u32),
-            6 if payload == 0 => Expr::This,
-            6 => Expr::Var(name?),
-            7 => Expr::Plus(self.boxed()?, self.boxed()?),
-            8 => Expr::Percent(self.boxed()?, self.boxed()?),
-            9 => Expr::Get(self.boxed()?, name?),
-            10 => Expr::Set(self.boxed()?, name?, self.boxed()?),
-            11 => Expr::Let(name?, self.boxed()?, self.boxed()?),
-            12 => Expr::Future(name?, self.word(payload >> 7)?, self.boxed()?),
-            13 => Expr::Call(self.boxed()?, name?, self.args(payload)?),
-            14 => Expr::Send(self.boxed()?, name?, self.args(payload)?),
-            15 => Expr::Object(self.written(payload)?),
-            16 => Expr::Isolate(self.written(payload)?),
-            17 => Expr::Actor(self.written(payload)?),
-            64 => Expr::Ask(self.boxed()?, name?, self.args(payload)?),
-            65 => Expr::Fn(name?, self.boxed()?),
-            66 => Expr::Resolve(self.boxed()?, self.boxed()?),
-            67 => Expr::When(self.boxed()?, name?, self.boxed()?),
-            68 => Expr::Seq(self.boxed()?, self.boxed()?),
-            _ => return None,
-        })
-    }
-
-    fn written(&mut self, payload: usize) -> Option<script::Literal> {
-        let fields = (0..payload & 7).map(|_| self.field()).collect::<Option<_>>()?;
-        let methods = (0..payload >> 3).map(|_| self.written_method()).collect::<Option<_>>()?;
-        Some(script::Literal { fields, methods })
-    }
-
-    fn field(&mut self) -> Option<Field> {
-        let (_, name) = self.node()?;
-        Some(Field { name: self.word(name)?, init: self.expr()? })
-    }
-
-    fn written_method(&mut self) -> Option<script::Method> {
-        let (name, params) = self.header()?;
-        let word = |var: &Var| match var {
-            Var::Word(word) => Some(*word),
-            Var::Hidden(_) => None,
-        };
-        let params = params.iter().map(word).collect::<Option<_>>()?;
-        Some(script::Method { name, params, body: self.expr()? })
     }
 }
 
@@ -304,6 +231,7 @@ mod tests {
     use super::*;
     use oracle::generate::{input, rng::Rng};
     use oracle::loops::split;
+    use oracle::words::encode_table;
 
     #[test]
     fn words_of_scripts_are_tables_and_states() {
@@ -341,5 +269,34 @@ mod tests {
         assert_eq!(broken(272, 11 << 24 | 9), "actors can be made out");
         assert_eq!(broken(272, 11 << 24 | 7), "variables are bound");
         assert_eq!(broken(STATE - 1, 1), "the words are those of the state");
+    }
+
+    /// The words of `(if (same 1 2) 3 4)` from 272 on, and what becomes of them with other kinds and payloads.
+    #[test]
+    fn words_of_choices() {
+        let words = encode(&oracle::load(&oracle::read(b"(if (same 1 2) 3 4)\n").unwrap()).unwrap());
+        let with = |at: usize, word: u32| {
+            let mut words = words.clone();
+            words[at] = word;
+            state(&words).map(|state| String::from_utf8(oracle::list(&state)).unwrap())
+        };
+        assert_eq!(with(273, 7 << 24).unwrap(), "(actor 0 0 0 0 (if (plus 1 2) 3 4))\n");
+        for (at, word) in [(272, 19 << 24 | 1), (273, 18 << 24 | 8), (272, 18 << 24), (273, 9 << 24 | 7)] {
+            assert_eq!(with(at, word), Err("the words are those of the state"));
+        }
+        for word in [19 << 24, 20 << 24, 21 << 24, 31 << 24, 63 << 24] {
+            assert_eq!(with(273, word), Err("actors can be made out"));
+        }
+    }
+
+    #[test]
+    fn no_dictionary_has_a_reserved_word() {
+        let words = encode(&oracle::load(&oracle::read(b"(get 1 a)\n").unwrap()).unwrap());
+        for (word, good) in [("if", false), ("same", false), ("iff", true), ("sam", true), ("get", false)] {
+            let (mut words, mut bytes) = (words.clone(), [0; 4]);
+            bytes[..word.len()].copy_from_slice(word.as_bytes());
+            words[2] = u32::from_le_bytes(bytes);
+            assert_eq!(state(&words).is_ok(), good, "{word}");
+        }
     }
 }
