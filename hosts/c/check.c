@@ -122,7 +122,12 @@ static void reading(void)
         {"(def x 1)\n", ATLITE_GRAMMAR},
         {"01\n", ATLITE_GRAMMAR},
         {"16777216\n", ATLITE_GRAMMAR},
+        {"(if 1 2)\n", ATLITE_GRAMMAR},
+        {"(same 1 2 3)\n", ATLITE_GRAMMAR},
+        {"(let if 1 2)\n", ATLITE_GRAMMAR},
+        {"(object (field same 1))\n", ATLITE_GRAMMAR},
         {"(let x 1 y)\n", ATLITE_BINDING},
+        {"(if 1 2 x)\n", ATLITE_BINDING},
         {"(def x 1)\n(actor (field a x))\n", ATLITE_BINDING},
         {"(object (field a 1) (field a 2))\n", ATLITE_TWICE},
         {"(future x x 1)\n", ATLITE_TWICE},
@@ -243,6 +248,8 @@ static void moving(void)
         {"(future f r (seq (resolve r 1) (resolve r 2)))\n", ATLITE_RESOLVED},
         {"(plus 16777215 1)\n", ATLITE_ARITHMETIC},
         {"(percent null 1)\n", ATLITE_ARITHMETIC},
+        {"(if (same null 0) 1 (plus null 1))\n", ATLITE_ARITHMETIC},
+        {"(if (same null null) 1 (plus null 1))\n", ATLITE_NOTHING},
         {"(let o (object (method go (x) (plus 1 (call this go (plus x 1))))) (call o go 0))\n", ATLITE_LIMIT},
     };
     for (size_t i = 0; i < sizeof refused / sizeof refused[0]; i += 1) {
@@ -260,6 +267,52 @@ static void moving(void)
     EXPECT(atlite_move(words, ATLITE_STATE_WORDS - 1, 0, &kind, &other) == ATLITE_SHORT);
     EXPECT(atlite_move(words, ATLITE_STATE_WORDS, 0, &kind, &other) == ATLITE_NEITHER);
     EXPECT(all(words, 4 * ATLITE_STATE_WORDS, 0x66) && kind == 1000 && other == 2000);
+}
+
+static void choosing(void)
+{
+    static const struct {
+        const char *text;
+        const char *listing;
+    } chosen[] = {
+        {"(if null 3 4)\n", "(actor 0 1 0 0 4)\n"},
+        {"(if (same 2 2) (same null 0) 5)\n", "(actor 0 3 0 0 0)\n"},
+        {"(let o (object) (if o (same o o) 5))\n", "(actor 0 4 1 0 1)\n(object 0 m 0)\n"},
+        {"(same (object) (object))\n", "(actor 0 3 2 0 0)\n(object 0 m 0)\n(object 0 m 1)\n"},
+        {"(future f r (if f r 5))\n", "(actor 0 2 2 0 (ref 0 m 1))\n(future 0 m 0 open)\n(resolver 0 m 1 0)\n"},
+    };
+    for (size_t i = 0; i < sizeof chosen / sizeof chosen[0]; i += 1) {
+        uint32_t *state = begin(chosen[i].text);
+        if (until_refused(state, 0) != ATLITE_NOTHING || !lists(state, chosen[i].listing)) {
+            printf("check.c: another end than that of %s\n", chosen[i].text);
+            failures += 1;
+        }
+    }
+
+    /* one move takes a part, and leaves it as it stands */
+    uint32_t kind, other;
+    uint32_t *state = begin("(if 1 (plus 2 null) 3)\n");
+    EXPECT(atlite_move(state, ATLITE_STATE_WORDS, 0, &kind, &other) == ATLITE_DONE && kind == ATLITE_INNER && other == ATLITE_NO_OTHER);
+    EXPECT(lists(state, "(actor 0 1 0 0 (plus 2 null))\n"));
+}
+
+/* A word that stands for a form is in no dictionary. The first entry of one begins with the third word of a state, the fourth of a table. */
+static void reserved(void)
+{
+    uint32_t *table = lend(4 * ATLITE_TABLE_WORDS, 0);
+    uint32_t *state = begin("(get null a)\n");
+    size_t moves, refusals, bytes;
+    uint8_t out[100];
+    memcpy(state + 2, "same", 4);
+    EXPECT(atlite_run(state, ATLITE_STATE_WORDS, out, 0, &moves, &refusals) == ATLITE_NEITHER);
+    memcpy(state + 2, "sam", 4);
+    EXPECT(atlite_run(state, ATLITE_STATE_WORDS, out, 0, &moves, &refusals) == ATLITE_DONE);
+    EXPECT(read_text("(get null a)\n", table, ATLITE_TABLE_WORDS) == ATLITE_DONE);
+    memcpy(table + 3, "if", 3);
+    EXPECT(atlite_print(table, ATLITE_TABLE_WORDS, out, sizeof out, &bytes) == ATLITE_NEITHER);
+    memcpy(table + 3, "iff", 4);
+    EXPECT(atlite_print(table, ATLITE_TABLE_WORDS, out, sizeof out, &bytes) == ATLITE_DONE);
+    EXPECT(bytes == 15 && memcmp(out, "(get null iff)\n", 15) == 0);
 }
 
 static void running(void)
@@ -320,6 +373,8 @@ int main(void)
     printing();
     loading();
     moving();
+    choosing();
+    reserved();
     running();
     listing();
     if (failures == 0) {

@@ -104,14 +104,17 @@ fn two_orders_that_agree_end_alike() {
 
 #[test]
 fn texts_are_refused_with_their_cause() {
-    let cases: [(&[u8], Refusal); 9] = [
+    let cases: [(&[u8], Refusal); 12] = [
         (b"", Refusal::TextLength),
         (&[b' '; TEXT_BYTES + 1], Refusal::TextLength),
         (&[b' '; TEXT_BYTES], Refusal::Grammar),
         (b"(plus 2 3)", Refusal::Grammar),
         (b"(def x 1)\n", Refusal::Grammar),
         (b"\xff\n", Refusal::Grammar),
+        (b"(if 1 2)\n", Refusal::Grammar),
+        (b"(same 1 2 3)\n", Refusal::Grammar),
         (b"(let x 1 y)\n", Refusal::Binding),
+        (b"(if 1 2 x)\n", Refusal::Binding),
         (b"(object (field a 1) (field a 2))\n", Refusal::Twice),
         (b"(future x x 1)\n", Refusal::Twice),
     ];
@@ -143,6 +146,8 @@ fn moves_are_refused_with_their_cause() {
             Refusal::Resolved,
         ),
         ("(plus 16777215 1)\n", Refusal::Arithmetic),
+        ("(if 1 (plus null 1) 2)\n", Refusal::Arithmetic),
+        ("(if 0 (plus null 1) (same null 2))\n", Refusal::Nothing),
         (
             "(let o (object (method go (x) (plus 1 (call this go (plus x 1))))) (call o go 0))\n",
             Refusal::Limit,
