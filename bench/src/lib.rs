@@ -17,7 +17,7 @@ struct Plan {
 }
 
 /// The cases in the order of the tables. Those that come to rest have fewer moves than the most.
-const PLANS: [Plan; 8] = [
+const PLANS: [Plan; 9] = [
     Plan {
         name: "small",
         about: "one actor with one object that calls itself",
@@ -72,6 +72,13 @@ const PLANS: [Plan; 8] = [
         about: "four actors with heaps, copies and inboxes full or nearly so",
         file: "bench/scripts/full.atl",
         lead: 2000,
+        most: 1000,
+    },
+    Plan {
+        name: "choose",
+        about: "hulls and lengths told apart, and prices chosen by them",
+        file: "bench/scripts/choose.atl",
+        lead: 0,
         most: 1000,
     },
 ];
