@@ -3,7 +3,8 @@
  *
  * A script's text is read into a table, a table is loaded into a state, and actors of a state move. The caller lends all memory: a
  * table is ATLITE_TABLE_WORDS words, a state ATLITE_STATE_WORDS. Both are plain data, so they may be copied, stored, compared with memcmp
- * and sent elsewhere. Two states that are the same have the same words.
+ * and sent elsewhere. Two states that are the same have the same words. Of those that were stored before `if` and `same` were words of the
+ * language, the ones whose script has either as a name of its own are ATLITE_NEITHER now; all others are what they were.
  *
  * Every call returns ATLITE_DONE or the number of the cause that refused it. Whatever stands in the lent memory, the answer is one that
  * the engine's contracts give: no call asks that words are a table or a state, it tests them and returns ATLITE_NEITHER. A refused call

@@ -82,7 +82,8 @@ impl Table {
         Ok(Table { words })
     }
 
-    /// The table in the first [`TABLE_WORDS`] words: [`Refusal::Short`] where they are too few, [`Refusal::Neither`] where they are none.
+    /// The table in the first [`TABLE_WORDS`] words: [`Refusal::Short`] where they are too few, [`Refusal::Neither`] where they are none, as
+    /// those of a script that has `if` or `same` as a name, which was one before the two were reserved.
     pub fn from_words(words: &[u32]) -> Result<Table, Refusal> {
         lent::print(words, &mut [0; TEXT_BYTES])?;
         Ok(Table {
