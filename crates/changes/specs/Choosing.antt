@@ -3,26 +3,25 @@
 -- What a script writes as (if c d e) is `choose` among the operators. A rule is stated by any rules of the two, so that a rule without them is an
 -- instance: where the redex is neither, its move is the same whatever they are.
 use Prim.Native.Nat.{ℕ}
-use mathlib.Core.Path.{_≡_, refl, ap, ap₂, _∙_}
-use mathlib.Core.Bool.{Bool, true, false, false≢true, _||_}
+use mathlib.Core.Path.{_≡_, refl, ap, _∙_}
+use mathlib.Core.Bool.{Bool, true, false, _||_}
 use mathlib.Core.List.{List}
 use mathlib.Core.Option.{some}
 use lib.Dec.{eqb}
 use lib.ListN.{getElem?}
-use borrow.Author.Tests.{eqb-true, ne-eqb}
+use borrow.Author.Tests.{ne-eqb}
 use Rattle.atlite.specs.Base.{Result, require, bytes, if_then_else_}
-use Rattle.atlite.specs.Facts.{and₃}
+use Rattle.atlite.specs.Laws.{same-value, value-same}
 use Rattle.atlite.specs.Lexicon.{isWord}
 use Rattle.atlite.specs.Replay.{All}
-use Rattle.atlite.specs.Term.{Series, made, copied, Value, null, num, ref, Name, Op, same, choose, Term, val, var, op, letIn, future, literal, Terms, cons, two, demanded, areValues, valueOf, valuesOf, isValue}
-use Rattle.atlite.specs.State.{Actor, State, sameSeries, sameValue}
+use Rattle.atlite.specs.Term.{Value, null, num, ref, Name, Op, same, choose, Term, val, var, op, letIn, future, literal, Terms, cons, two, demanded, areValues, valueOf, valuesOf, isValue}
+use Rattle.atlite.specs.State.{Actor, State, sameValue}
 use Rattle.atlite.specs.Redex.{redex}
 use Rattle.atlite.specs.Outcome.{inner, Outcome, becomes}
 use Rattle.atlite.specs.Rules.{number, sameRule, saysNo, choice, chooseRule, pairOf, oneOf, operate, rule}
 use Rattle.atlite.specs.Limits.{Bounds}
 use Rattle.atlite.specs.Move.{takeRule, moveWithin}
 use Rattle.layout.specs.Terms.{opKind}
-use Rattle.invariant.specs.PassedIsolates.{same-value}
 use Rattle.changes.specs.MoveBy.{Rule, turnBy, moveBy, move-agrees, move-now}
 
 -- ---- if
@@ -61,27 +60,6 @@ module _ (s : List Actor) (a : ℕ) (A : Actor) (v : Value) (d e : Term) where
   if-yes h = rw h
 
 -- ---- same
-series-is : (r s : Series) → sameSeries r s ≡ true → r ≡ s
-unfolding sameSeries
-series-is made made h = refl
-series-is made copied h = absurd (false≢true h)
-series-is copied made h = absurd (false≢true h)
-series-is copied copied h = refl
-
-pub same-is : (v w : Value) → sameValue v w ≡ true → v ≡ w
-unfolding sameValue
-same-is null null h = refl
-same-is null (num n) h = absurd (false≢true h)
-same-is null (ref b s n) h = absurd (false≢true h)
-same-is (num m) null h = absurd (false≢true h)
-same-is (num m) (num n) h = ap num (eqb-true m n h)
-same-is (num m) (ref b s n) h = absurd (false≢true h)
-same-is (ref a r m) null h = absurd (false≢true h)
-same-is (ref a r m) (num n) h = absurd (false≢true h)
-same-is (ref a r m) (ref b s n) h =
-    let (i, j, k) = and₃ (eqb a b) (sameSeries r s) (eqb m n) h in
-    ap (λ x. ref x r m) (eqb-true a b i) ∙ ap₂ (ref b) (series-is r s j) (eqb-true m n k)
-
 -- it is 1 for a value and itself
 pub same-equal : (s : List Actor) (a : ℕ) (A : Actor) (v : Value) → rule s a A (op same (two (val v) (val v))) ≡ becomes inner A (val (num 1))
 unfolding rule operate pairOf oneOf valuesOf valueOf sameRule number require if_then_else_
@@ -93,7 +71,7 @@ unfolding rule operate pairOf oneOf valuesOf valueOf sameRule number require if_
 same-other s a A v w h = go (sameValue v w) refl
   where
     go : (b : Bool) → sameValue v w ≡ b → number A (if sameValue v w then 1 else 0) ≡ becomes inner A (val (num 0))
-    go true e = absurd (h (same-is v w e))
+    go true e = absurd (h (value-same v w e))
     go false e = rw e
 
 -- ---- the words are nobody's names

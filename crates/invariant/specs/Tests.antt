@@ -10,36 +10,18 @@ use native.Mathlib.Omega.{arith}
 use lib.ListN.{length, getElem?}
 use lib.Dec.{eqb, leb, ltb}
 use Rattle.atlite.specs.Base.{all}
-use Rattle.atlite.specs.Term.{this, Series, made, copied, Value, null, num, ref, object, future, field, methodNames}
-use Rattle.atlite.specs.State.{Message, message, Field, Tag, O, I, Entity, resolver, Actor, State, entityAt, isFuture, sameSeries, sameValue, isIsolate, fieldNames}
+use Rattle.atlite.specs.Term.{this, made, copied, Value, null, num, ref, object, future, field, methodNames}
+use Rattle.atlite.specs.State.{Message, message, Field, Tag, O, I, Entity, resolver, Actor, State, entityAt, isFuture, sameValue, isIsolate, fieldNames}
 use Rattle.atlite.specs.Valid.{sendable, namesWithin, wordsHold, Each, HeldBy, FieldsHeld, Waits, OwnValue, Arrived, IsEntity, IsActor, MayHold, IsState}
 use Rattle.atlite.specs.ValidTest.{wellFormed, wellFormedMethods, visible, holdable, fieldsHold, ownReference, arrived, waits, heldBy, noMessage, entityHolds, entitiesHold, actorHolds, actorsHold, isState}
 use Rattle.atlite.specs.Facts.{eqb-same, none-some, and₂, and₃, and₄, both₂, both₃, both₄, and₅}
+use Rattle.atlite.specs.Laws.{same-value, value-same}
 use Rattle.atlite.specs.Limits.{full, withinLimits}
 use Rattle.atlite.specs.State as St
 use Rattle.invariant.specs.Monotonicity.{actor-up}
 use borrow.Author.Tests.{eqb-true, leb-true, ltb-true, le-leb, lt-ltb}
 use Rattle.invariant.specs.Terms.{widerMethods}
-use Rattle.invariant.specs.PassedIsolates.{same-value}
 use Rattle.invariant.specs.TermTests.{Is, all-is, is-all, wf-to, wf-from, methods-to, methods-from}
-
-series-same : (r q : Series) → sameSeries r q ≡ true → r ≡ q
-unfolding sameSeries
-series-same made made h = refl
-series-same made copied h = absurd (false≢true h)
-series-same copied made h = absurd (false≢true h)
-series-same copied copied h = refl
-
-value-same : (v : Value) (a n : ℕ) (r : Series) → sameValue v (ref a r n) ≡ true → v ≡ ref a r n
-unfolding sameValue
-value-same null a n r h = absurd (false≢true h)
-value-same (num m) a n r h = absurd (false≢true h)
-value-same (ref b q m) a n r h =
-    let k = and₃ (eqb b a) (sameSeries q r) (eqb m n) h in
-    let x : b ≡ a = eqb-true b a (k .0) in
-    let y : q ≡ r = series-same q r (k .1) in
-    let z : m ≡ n = eqb-true m n (k .2) in
-    cc
 
 own-to : (a : ℕ) (v : Value) → ownReference a v ≡ true → OwnValue a v
 unfolding ownReference
@@ -102,7 +84,7 @@ module _ (σ : State) (a : ℕ) where
   unfolding waits
   waits-to n (message v m vs) h =
       let r = and₃ (sameValue v (ref a made n)) (sendable w m (length vs)) (all p vs) h in
-      (value-same v a n made (r .0), (r .1, all-is p (Is p) (λ x k. k) vs (r .2)))
+      (value-same v (ref a made n) (r .0), (r .1, all-is p (Is p) (λ x k. k) vs (r .2)))
 
   waits-from : (n : ℕ) (m : Message) → Waits w (Is p) (ref a made n) m → waits σ a n m ≡ true
   unfolding waits
