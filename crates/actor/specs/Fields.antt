@@ -8,7 +8,7 @@ use native.Mathlib.Omega.{arith}
 use borrow.Author.Tests.{eqb-true, ltb-true, lt-ltb, le-leb}
 use lib.Dec.{ltb, leb}
 use lib.ListN.{length, drop, getD}
-use Rattle.atlite.specs.Base.{member, distinct, all}
+use Rattle.atlite.specs.Base.{member, distinct, all, distinctBy}
 use Rattle.atlite.specs.Term.{Value}
 use Rattle.atlite.specs.State.{Field, field, fieldNames, fieldValues}
 use Rattle.atlite.specs.Valid.{All, isName, namesWithin, FieldsHeld}
@@ -36,7 +36,7 @@ use Rattle.actor.specs.MessageTests.{some-within}
 -- ---- names
 names-word : (W c x : ℕ) → namesHold W c x ≡ true
     → (names (namesIn c x) ≡ x) × (distinct (namesIn c x) ≡ true) × (all (isName W) (namesIn c x) ≡ true) × (length (namesIn c x) ≡ c)
-unfolding namesHold namesIn names distinct all
+unfolding namesHold namesIn names distinctBy all
 names-word W zero x h = (sym (eqb-true x 0 h), refl, refl, refl)
 names-word W (suc c) x h =
     let y = x % nameLimit in
@@ -47,7 +47,7 @@ names-word W (suc c) x h =
     (ap (λ k. x % nameLimit + nameLimit * k) z ∙ omega arith, both₂ (r .1) (i .1), both₂ (r .0) (i .2), ap suc (i .3))
 
 word-names : (W : ℕ) (xs : List ℕ) → Each NameFits xs → distinct xs ≡ true → all (isName W) xs ≡ true → namesHold W (length xs) (names xs) ≡ true
-unfolding namesHold names distinct all
+unfolding namesHold names distinctBy all
 word-names W [] f d h = refl
 word-names W (x ∷ xs) f d h =
     let l : x < nameLimit = omega (arith, f .0) in

@@ -10,7 +10,7 @@ use borrow.Author.Tests.{eq-eqb, ne-eqb}
 use lib.Dec.{eqb}
 use lib.ListN.{length, take, drop, getD, take-append-drop, length-drop}
 use lib.Seq.{length-take-le, take-at}
-use Rattle.atlite.specs.Base.{member, all, if_then_else_}
+use Rattle.atlite.specs.Base.{member, all, if_then_else_, any}
 use Rattle.atlite.specs.Term.{Value}
 use Rattle.atlite.specs.Valid.{isName}
 use Rattle.layout.specs.Numbers.{nameLimit}
@@ -95,12 +95,12 @@ pub ruleset values-laws = (needs, values-start, values-end, values-stop, values-
 -- ---- names
 module _ (x n y : ℕ) where
   pub among-none : n ≡ 0 → false ≡ member y (namesIn n x)
-  unfolding member namesIn
+  unfolding any namesIn
   among-none e = rw e
 
   module _ (z : n ≡ 0 → ⊥) where
     step-among : (m : ℕ) → n ≡ suc m → member y (namesIn n x) ≡ (if eqb y (x % nameLimit) then true else member y (namesIn m (x / nameLimit)))
-    unfolding member namesIn
+    unfolding any namesIn
     step-among m k = rw k
 
     pub among-here : y ≡ x % nameLimit → true ≡ member y (namesIn n x)

@@ -49,18 +49,25 @@ unfoldable pub bytes : S.String → List ℕ
 bytes S.[] = []
 bytes (S._∷_ c s) = code c ∷ bytes s
 
-unfoldable pub member : ℕ → List ℕ → Bool
-member x [] = false
-member x (y ∷ ys) = if eqb x y then true else member x ys
-
--- no number stands twice
-unfoldable pub distinct : List ℕ → Bool
-distinct [] = true
-distinct (x ∷ xs) = not (member x xs) && distinct xs
-
 unfoldable pub all : {A : Type 0} → (A → Bool) → List A → Bool
 all p [] = true
 all p (x ∷ xs) = p x && all p xs
+
+unfoldable pub any : {A : Type 0} → (A → Bool) → List A → Bool
+any p [] = false
+any p (x ∷ xs) = if p x then true else any p xs
+
+-- no two elements are the same by the test e
+unfoldable pub distinctBy : {A : Type 0} → (A → A → Bool) → List A → Bool
+distinctBy e [] = true
+distinctBy e (x ∷ xs) = not (any (e x) xs) && distinctBy e xs
+
+-- of numbers
+abbrev pub member : ℕ → List ℕ → Bool
+member x xs = any (eqb x) xs
+
+abbrev pub distinct : List ℕ → Bool
+distinct xs = distinctBy eqb xs
 
 unfoldable pub sum : {A : Type 0} → (A → ℕ) → List A → ℕ
 sum f [] = 0
@@ -75,5 +82,5 @@ sameBytes (x ∷ xs) (y ∷ ys) = eqb x y && sameBytes xs ys
 
 -- all definitions above, opened together: name it on an `unfolding` line
 unfoldable pub Base : Unit {0}
-unfolding isDone orRefuse require if_then_else_ bytes member distinct all sum sameBytes
+unfolding isDone orRefuse require if_then_else_ bytes all any distinctBy sum sameBytes
 Base = tt

@@ -8,7 +8,7 @@ use native.Mathlib.Omega.{arith}
 use borrow.Author.Tests.{ne-eqb}
 use lib.Dec.{eqb, ltb}
 use lib.ListN.{length, getD}
-use Rattle.atlite.specs.Base.{if_then_else_, member}
+use Rattle.atlite.specs.Base.{if_then_else_, member, any}
 use Rattle.atlite.specs.Term.{Kind, seen}
 use Rattle.atlite.specs.Scope.{bound, boundAll, boundFields, boundMethods}
 use Rattle.atlite.specs.Table.{Grammatical, GrammaticalAll, GrammaticalFields, GrammaticalMethods}
@@ -38,7 +38,7 @@ unfolding binds
 binds-wide k p h = rw (kind-wide k p h, payload-wide k p h)
 
 sees-var : (x b l : ℕ) (L xs : List ℕ) → x < wideLimit → Levels L b l xs → sees (wide 6 x) b L ≡ member x (0 ∷ xs)
-unfolding sees member if_then_else_
+unfolding sees any if_then_else_
 sees-var x b l L xs h v =
     let i : 6 < wideKinds = omega arith in
     let m : x % wideLimit ≡ x = omega arith in

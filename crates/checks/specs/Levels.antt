@@ -9,7 +9,7 @@ use borrow.Author.Tests.{ne-eqb, lt-ltb, le-ltb, eqb-true, eqb-false}
 use lib.Dec.{eqb, ltb}
 use lib.ListN.{length, getD, set, replicate, length-set, length-replicate}
 use lib.Seq.{getD-set-same, getD-set-other}
-use Rattle.atlite.specs.Base.{if_then_else_, member}
+use Rattle.atlite.specs.Base.{if_then_else_, member, any}
 use Rattle.layout.specs.PackLaws.{Each}
 use Rattle.words.specs.Wide.{pair, wideParams, wideLimit, wideThird}
 use Rattle.checks.specs.Names.{Name}
@@ -28,7 +28,7 @@ none-bound (suc n) ℕ.zero = refl
 none-bound (suc n) (suc x) = none-bound n x
 
 pub at-start : (L : List ℕ) → L ≡ replicate 4096 0 → Levels L 0 0 []
-unfolding member
+unfolding any
 at-start L e = record {
   long = ap length e ∙ length-replicate {A = ℕ} 4096 0;
   under = omega arith;
@@ -38,12 +38,12 @@ at-start L e = record {
 
 -- ---- a new base
 pub hidden : (L : List ℕ) (b l : ℕ) (xs : List ℕ) → Levels L b l xs → Levels L l l []
-unfolding member
+unfolding any
 hidden L b l xs h = record { long = h .long; under = omega arith; low = h .low; right = λ x p. le-ltb l (getD L x 0) (h .low x) }
 
 -- ---- one name
 pub bound-one : (L : List ℕ) (b l : ℕ) (xs : List ℕ) (y v : ℕ) → y < wideLimit → b < v → l ≤ v → Levels L b l xs → Levels (set L y v) b v (y ∷ xs)
-unfolding member if_then_else_
+unfolding any if_then_else_
 bound-one L b l xs y v hy hb hl h = record {
   long = length-set L y v ∙ h .long;
   under = omega arith;
@@ -83,7 +83,7 @@ module _ (L : List ℕ) (b l : ℕ) (xs : List ℕ) (x y z : ℕ) (hx : x < wide
 
 -- the names that a word binds
 pub bound-all : (w : ℕ) (ys : List ℕ) (L : List ℕ) (b l : ℕ) (xs : List ℕ) → w ≤ 4000 → length ys ≤ 3 → Each (Name w) ys → Levels L b l xs → Levels (bindAll L (wideParams ys) (l + 1)) b (l + 1) (ys ++ xs)
-unfolding wideParams member if_then_else_
+unfolding wideParams any if_then_else_
 bound-all w [] L b l xs k n a h =
     same-scope _ b (l + 1) (0 ∷ 0 ∷ 0 ∷ xs) xs (three L b l xs 0 0 0 (omega arith) (omega arith) (omega arith) h) (λ u p. rw (ne-eqb u 0 (λ e. omega arith)))
 bound-all w (x ∷ []) L b l xs k n a h =

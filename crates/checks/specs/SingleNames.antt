@@ -8,7 +8,7 @@ use native.Mathlib.Omega.{arith}
 use borrow.Author.Tests.{eq-eqb, ne-eqb, le-ltb, eqb-true, eqb-false}
 use lib.Dec.{eqb}
 use lib.ListN.{length}
-use Rattle.atlite.specs.Base.{if_then_else_, member, distinct}
+use Rattle.atlite.specs.Base.{if_then_else_, member, distinct, any, distinctBy}
 use Rattle.layout.specs.Numbers.{fieldKind}
 use Rattle.layout.specs.PackLaws.{Each}
 use Rattle.words.specs.Wide.{wideKinds, wideNames, wide, pair, wideParams, wideLimit, wideThird}
@@ -43,7 +43,7 @@ eqb-sym x y = go (eqb y x) refl
     go false e = ne-eqb x y (λ z. eqb-false y x e (sym z))
 
 disjoint-cons : (x : ℕ) (ns xs : List ℕ) → disjoint (x ∷ ns) xs ≡ (not (member x xs) && disjoint ns xs)
-unfolding disjoint member
+unfolding disjoint any
 disjoint-cons x ns [] = refl
 disjoint-cons x ns (y ∷ xs) =
     rw (disjoint-cons x ns xs, not-if (eqb y x) (member y ns), not-if (eqb x y) (member x xs), eqb-sym y x)
@@ -56,7 +56,7 @@ disjoint-cons x ns (y ∷ xs) =
     turn false false false d = refl
 
 from-split : (ns xs : List ℕ) → distinctFrom ns xs ≡ (disjoint ns xs && distinct xs)
-unfolding distinctFrom disjoint distinct
+unfolding distinctFrom disjoint distinctBy
 from-split ns [] = refl
 from-split ns (x ∷ xs) = rw (from-split (x ∷ ns) xs, disjoint-cons x ns xs) (turn (not (member x ns)) (not (member x xs)) (disjoint ns xs) (distinct xs))
   where
@@ -67,7 +67,7 @@ from-split ns (x ∷ xs) = rw (from-split (x ∷ ns) xs, disjoint-cons x ns xs) 
     turn false b d e = refl
 
 disjoint-none : (xs : List ℕ) → disjoint [] xs ≡ true
-unfolding disjoint member
+unfolding disjoint any
 disjoint-none [] = refl
 disjoint-none (x ∷ xs) = disjoint-none xs
 
@@ -91,7 +91,7 @@ abbrev pub Small : ℕ → Type 0
 Small x = x < wideLimit
 
 pub fresh-packed : (ns : List ℕ) (x : ℕ) → length ns ≤ 3 → Each Small ns → 0 < x → fresh (packed ns) x ≡ not (member x ns)
-unfolding packed member
+unfolding packed any
 fresh-packed [] x l h z = fresh-digits 0 0 0 (omega arith) (omega arith) (omega arith) x ∙ rw (ne-eqb x 0 (λ e. omega arith))
 fresh-packed (a ∷ []) x l h z =
     fresh-digits a 0 0 (h .0) (omega arith) (omega arith) x
@@ -133,7 +133,7 @@ module _ (a b c : ℕ) (ha : a < wideLimit) (hb : b < wideLimit) (hc : c < wideL
 
 pub apart-params : (w : ℕ) (xs : List ℕ) → w ≤ 4000 → length xs ≤ 3 → Each (Name w) xs
     → apart (wideParams xs % wideLimit) (wideParams xs / wideLimit % wideLimit) (wideParams xs / wideThird % wideLimit) ≡ distinct xs
-unfolding wideParams apart distinct member
+unfolding wideParams apart distinctBy any
 apart-params w [] l h a = refl
 apart-params w (x ∷ []) l h a = apart-digits x 0 0 (omega (arith, a .0 .below)) (omega arith) (omega arith)
 apart-params w (x ∷ y ∷ []) l h a =

@@ -5,7 +5,7 @@ use mathlib.Core.Bool.{true}
 use mathlib.Core.List.{List, [], _∷_}
 use Prim.Native.Nat.{ℕ, _+_, _<_}
 use native.Mathlib.Omega.{arith}
-use Rattle.atlite.specs.Base.{member, all, distinct, if_then_else_}
+use Rattle.atlite.specs.Base.{member, all, if_then_else_, any, distinctBy}
 use Rattle.atlite.specs.Term.{this, ·t, ·r, ·l, ·x, apply, Value, plain, resolve, send, Term, var, op, two, countTerms, initNames, methodNames, seen}
 use Rattle.atlite.specs.Expansion.{functionWith, resolvingWith}
 use Rattle.atlite.specs.Valid.{isName, isVariable, namesWithin, parameters, sendable, WellFormed}
@@ -22,15 +22,15 @@ unfolding isName
 apply-name w = lt-ltb 7 (8 + w) (omega arith)
 
 pub one-name : (w : ℕ) → namesWithin 4 w (apply ∷ []) ≡ true
-unfolding namesWithin distinct member all
+unfolding namesWithin distinctBy any all
 one-name w = rw (apply-name w)
 
 pub no-name : (w : ℕ) → namesWithin 4 w [] ≡ true
-unfolding namesWithin distinct all
+unfolding namesWithin distinctBy all
 no-name w = refl
 
 pub one-parameter : (w x : ℕ) → isVariable w x ≡ true → parameters w (x ∷ []) ≡ true
-unfolding parameters distinct member all
+unfolding parameters distinctBy any all
 one-parameter w x h = rw h
 
 pub apply-sendable : (w : ℕ) → sendable w (plain apply) 1 ≡ true
@@ -41,7 +41,7 @@ module _ (w : ℕ) (P : Value → Type 0) where
   -- what stands for `this` around a function is bound as .t, and the body is an object's method
   pub function-wf : (zs : List ℕ) (z : Term) (x : ℕ) (e : Term) → isVariable w x ≡ true → WellFormed z w P zs
       → WellFormed e w P (x ∷ this ∷ ·t ∷ zs) → WellFormed (functionWith z x e) w P zs
-  unfolding functionWith seen initNames methodNames member if_then_else_
+  unfolding functionWith seen initNames methodNames any if_then_else_
   function-wf zs z x e hx hz h =
       let vs = x ∷ this ∷ ·t ∷ zs in
       let u : member ·t vs ≡ true = sub-skip x (this ∷ ·t ∷ zs) ·t refl in
@@ -49,7 +49,7 @@ module _ (w : ℕ) (P : Value → Type 0) where
 
   pub resolving-wf : (zs : List ℕ) (z e d : Term) → WellFormed z w P (·r ∷ zs) → WellFormed e w P zs → WellFormed d w P (·l ∷ ·r ∷ zs)
       → WellFormed (resolvingWith z e d) w P zs
-  unfolding resolvingWith sendable countTerms member if_then_else_
+  unfolding resolvingWith sendable countTerms any if_then_else_
   resolving-wf zs z e d hz h k =
       let b = function-wf (·r ∷ zs) z ·x (op (send resolve) (two (var ·r) (var ·x))) (hidden w ·x (omega arith) (omega arith)) hz (refl, (refl, (refl, tt))) in
       (hidden w ·r (omega arith) (omega arith), h, (hidden w ·l (omega arith) (omega arith), b, (refl, (k, (refl, tt)))))

@@ -8,7 +8,7 @@ use native.Mathlib.Omega.{arith}
 use borrow.Author.Tests.{ltb-true, leb-true, eqb-true}
 use lib.ListN.{length}
 use lib.Dec.{eqb, leb, ltb}
-use Rattle.atlite.specs.Base.{member, distinct, all, if_then_else_}
+use Rattle.atlite.specs.Base.{member, distinct, all, if_then_else_, any}
 use Rattle.atlite.specs.Term.{this, apply, firstWord, Value, null, num, ref, Name, plain, twoWay, resolve, register, Shape, exactly, onField, calling, sending, shape, Kind, Term, val, var, op, letIn, future, literal, Terms, nil, cons, Inits, noField, Methods, noMethod, method, countTerms, initNames, methodNames, seen, top}
 use Rattle.atlite.specs.Valid.{isName, isVariable, sendable, callable, shapely, operable, unreferring, namesWithin, parameters}
 use Rattle.atlite.specs.ValidTest.{held, wellFormed, wellFormedAll, wellFormedInits, wellFormedMethods}
@@ -78,7 +78,7 @@ known-or x y r true e k f h = let q = eqb-true x y e in omega arith
 known-or x y r false e k f h = f h
 
 member-known : (x : ℕ) (xs : List ℕ) → Known xs → member x xs ≡ true → NameFits x
-unfolding member
+unfolding any
 member-known x [] k h = absurd (false≢true h)
 member-known x (y ∷ ys) k h = known-or x y (member x ys) (eqb x y) refl (k .0) (λ q. member-known x ys (k .1) q) h
 

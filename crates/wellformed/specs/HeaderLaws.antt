@@ -8,7 +8,7 @@ use native.Mathlib.Omega.{arith}
 use borrow.Author.Needs.{needs}
 use borrow.Author.Tests.{lt-ltb, le-ltb, le-leb, lt-leb, eq-eqb, ne-eqb, ltb-false}
 use lib.Dec.{eqb, ltb, leb}
-use Rattle.atlite.specs.Base.{if_then_else_, member, distinct, all}
+use Rattle.atlite.specs.Base.{if_then_else_, member, all, any, distinctBy}
 use Rattle.atlite.specs.Valid.{isName, isVariable, parameters}
 use Rattle.atlite.specs.Facts.{and₂}
 use Rattle.layout.specs.Numbers.{payload, fieldKind, methodUnit, nameLimit, noName, tagLimit, taggedLimit, secondPlace, thirdPlace, digitLimit}
@@ -99,15 +99,15 @@ module _ (c : ℕ) where
   variable-past l x h = rw (lt-ltb 0 x (omega arith), le-ltb x (8 + c) (omega arith))
 
   no-parameter : parameters c [] ≡ true
-  unfolding parameters distinct all
+  unfolding parameters distinctBy all
   no-parameter = refl
 
   one-parameter : (x : ℕ) → parameters c (x ∷ []) ≡ isVariable c x
-  unfolding parameters distinct member all
+  unfolding parameters distinctBy any all
   one-parameter x = and-true (isVariable c x)
 
   two-parameters : (x y : ℕ) → parameters c (x ∷ y ∷ []) ≡ two c x y
-  unfolding parameters distinct member all two if_then_else_
+  unfolding parameters distinctBy any all two if_then_else_
   two-parameters x y = go (isVariable c x) (isVariable c y) (eqb x y)
     where
       go : (a b e : Bool) → (not (if e then true else false) && true) && (a && (b && true)) ≡ a && b && not e
@@ -119,7 +119,7 @@ module _ (c : ℕ) where
       go false b false = refl
 
   three-parameters : (x y z : ℕ) → parameters c (x ∷ y ∷ z ∷ []) ≡ two c x y && third c x y z
-  unfolding parameters distinct member all two third if_then_else_
+  unfolding parameters distinctBy any all two third if_then_else_
   three-parameters x y z = go (isVariable c x) (isVariable c y) (isVariable c z) (eqb x y) (eqb x z) (eqb y z)
     where
       go : (a b d e f g : Bool) → (not (if e then true else (if f then true else false)) && (not (if g then true else false) && true)) && (a && (b && (d && true)))

@@ -9,7 +9,7 @@ use borrow.Author.Needs.{needs}
 use borrow.Author.Tests.{eq-eqb, ne-eqb, ltb-true, leb-true}
 use lib.Dec.{eqb, ltb, leb}
 use lib.ListN.{length}
-use Rattle.atlite.specs.Base.{if_then_else_, member}
+use Rattle.atlite.specs.Base.{if_then_else_, member, any}
 use Rattle.atlite.specs.Valid.{isName, isVariable}
 use Rattle.atlite.specs.Facts.{and₂}
 use Rattle.layout.specs.Numbers.{nameLimit, noName, pairLimit, placesLimit}
@@ -50,7 +50,7 @@ module _ (x a b d : ℕ) (ha : a < noName) (hb : b < noName) (hd : d < noName) w
       rw (i, j, k) (none-of (eqb x a) (eqb x b) (eqb x d))
 
 fresh-names : (x : ℕ) (ns : List ℕ) → 0 < x → length ns ≤ 3 → Each (λ y. (0 < y) × (y < noName)) ns → freshIn (names ns) x ≡ not (member x ns)
-unfolding names member if_then_else_
+unfolding names any if_then_else_
 fresh-names x [] z l h = rw (ne-eqb x 0 (λ e. omega arith))
 fresh-names x (a ∷ []) z l h = three-names x a 0 0 (h .0 .1) (omega arith) (omega arith) ∙ rw (ne-eqb x 0 (λ e. omega arith))
 fresh-names x (a ∷ b ∷ []) z l h = three-names x a b 0 (h .0 .1) (h .1 .0 .1) (omega arith) ∙ rw (ne-eqb x 0 (λ e. omega arith))

@@ -10,7 +10,7 @@ use borrow.Author.Tests.{lt-ltb, le-ltb, ne-eqb, ltb-true, ltb-false, eqb-true, 
 use lib.Dec.{eqb, ltb}
 use lib.ListN.{length, getD, set, replicate, length-set, getD-replicate, List·getD-eq-default}
 use lib.Seq.{getD-set-same, getD-set-other}
-use Rattle.atlite.specs.Base.{if_then_else_, member}
+use Rattle.atlite.specs.Base.{if_then_else_, member, any}
 use Rattle.atlite.specs.Term.{Kind, seen}
 use Rattle.atlite.specs.ValidTest.{held}
 use Rattle.atlite.specs.Facts.{eqb-same}
@@ -28,7 +28,7 @@ zeros-low x true e = getD-replicate nameLimit x 0 0 (ltb-true x nameLimit e)
 zeros-low x false e = List·getD-eq-default (replicate nameLimit 0) 0 (ltb-false x nameLimit e)
 
 pub scope-none : Scope (replicate nameLimit 0) 1 []
-unfolding member
+unfolding any
 scope-none = record {
   size = refl;
   low = λ x. omega (arith, zeros-low x (ltb x nameLimit) refl);
@@ -37,7 +37,7 @@ scope-none = record {
 
 -- one level more hides all
 pub scope-hidden : (F : List ℕ) (g : ℕ) (xs : List ℕ) → Scope F g xs → Scope F (g + 1) []
-unfolding member
+unfolding any
 scope-hidden F g xs s = record {
   size = s .size;
   low = λ x. omega (arith, s .low x);
@@ -53,7 +53,7 @@ module _ (F : List ℕ) (g : ℕ) (xs : List ℕ) (s : Scope F g xs) where
   set-low x y l false e = rw (getD-set-other F x y g 0 (eqb-false y x e)) (s .low y)
 
   pub scope-bind : (x : ℕ) → x < noName → Scope (set F x g) g (x ∷ xs)
-  unfolding member if_then_else_
+  unfolding any if_then_else_
   scope-bind x l = record {
     size = length-set F x g ∙ s .size;
     low = λ y. set-low x y (omega arith) (eqb y x) refl;
