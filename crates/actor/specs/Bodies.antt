@@ -5,9 +5,9 @@ use mathlib.Core.Bool.{Bool, true, false}
 use mathlib.Core.List.{List, [], _∷_}
 use native.Mathlib.Omega.{arith}
 use lib.ListN.{length}
-use Rattle.atlite.specs.Term.{this, Value, methodNames}
+use Rattle.atlite.specs.Term.{this, Value, signatures}
 use Rattle.atlite.specs.State.{Tag, O, I}
-use Rattle.atlite.specs.Valid.{namesWithin, HeldBy, unreferring}
+use Rattle.atlite.specs.Valid.{methodsNamed, HeldBy, unreferring}
 use Rattle.atlite.specs.ValidTest.{wellFormed, wellFormedMethods}
 use Rattle.atlite.specs.Facts.{and₂, both₂}
 use Rattle.invariant.specs.TermTests.{Is, wf-to, wf-from, methods-to, methods-from}
@@ -33,7 +33,7 @@ module _ (K : List ℕ) (a W : ℕ) (w B : List ℕ) (few : W ≤ 64) where
   judge t p same = record {
     sound = λ m b l.
         let r = ends-at (methodsHold W p) (parseMethods (length B) B m b) _ refl (omega arith) in
-        let q = and₂ (namesWithin 4 W (methodNames (r .0))) (wellFormedMethods W p (this ∷ []) (r .0)) (r .2) in
+        let q = and₂ (methodsNamed W (signatures (r .0))) (wellFormedMethods W p (this ∷ []) (r .0)) (r .2) in
         (r .0, methods-iff (length B) B b (omega arith) m (r .0) _ .0 (r .1), q .0, rw same at (methods-to (r .0) W p (this ∷ []) (q .1)));
     complete = λ m b e M h n k.
         let g : parseMethods (length B) B m b ≡ got M e = methods-iff (length B) B b (omega arith) m M e .1 h in

@@ -5,21 +5,22 @@ use mathlib.Core.Bool.{true, not}
 use mathlib.Core.List.{List, [], _∷_, _++_}
 use mathlib.Core.Option.{some}
 use native.Mathlib.Omega.{arith}
-use borrow.Author.Tests.{eqb-true, ltb-true, lt-ltb, le-leb}
-use lib.Dec.{ltb, leb}
+use borrow.Author.Tests.{eqb-true, ltb-true, lt-ltb}
+use lib.Dec.{ltb}
 use lib.ListN.{length, drop, getD}
 use Rattle.atlite.specs.Base.{member, distinct, all, distinctBy}
 use Rattle.atlite.specs.Term.{Value}
 use Rattle.atlite.specs.State.{Field, field, fieldNames, fieldValues}
-use Rattle.atlite.specs.Valid.{All, isName, namesWithin, FieldsHeld}
+use Rattle.atlite.specs.Valid.{All, isName, fieldsNamed, FieldsHeld}
 use Rattle.atlite.specs.Facts.{and₂, and₃, and₄, both₂, both₃, both₄}
+use Rattle.atlite.specs.Laws.{few-are, are-few}
 use Rattle.invariant.specs.Delivery.{fields-all}
 use Rattle.invariant.specs.TermTests.{Is, all-is, is-all}
 use Rattle.layout.specs.Numbers.{nameLimit, slotSize, slotBody}
 use Rattle.layout.specs.Pack.{zeros, pad, names}
 use Rattle.layout.specs.PackLaws.{pack-low, pack-high, length-pad, pad-front, Each, NameFits, names-back}
 use Rattle.layout.specs.Reading.{namesIn}
-use Rattle.layout.specs.Fitting.{within-fits}
+use Rattle.layout.specs.Fitting.{fields-named-fit}
 use Rattle.layout.specs.Layout.{valueWords}
 use Rattle.layout.specs.Decode.{fieldsIn}
 use Rattle.layout.specs.Slots.{length-values, FieldsFit, count-names, count-values}
@@ -89,10 +90,10 @@ module _ (K : List ℕ) (a W : ℕ) (w : List ℕ) (few : W ≤ 64) where
   P = Is (allowed K a)
 
   abbrev pub FieldsAre : ℕ → List Field → Type 0
-  FieldsAre f F = (length F ≡ f) × (namesWithin 4 W (fieldNames F) ≡ true) × FieldsHeld P F × FieldsFit F
+  FieldsAre f F = (length F ≡ f) × (fieldsNamed W (fieldNames F) ≡ true) × FieldsHeld P F × FieldsFit F
 
   pub fields-sound : (f at : ℕ) → at + slotSize ≤ length w → fieldsAt K a W w f at ≡ true → (F : List Field) × FieldsAre f F × Spans w (at + 1) (at + slotBody) (fieldWords F)
-  unfolding fieldsAt namesWithin fieldWords pad
+  unfolding fieldsAt fieldWords pad
   fields-sound f at i h =
       let x = getD w (at + 1) 0 in
       let xs = namesIn f x in
@@ -108,7 +109,7 @@ module _ (K : List ℕ) (a W : ℕ) (w : List ℕ) (few : W ≤ 64) where
       let zv : fieldValues F ≡ vs = zip-values xs vs same in
       let c : length F ≡ f = sym (count-names F) ∙ ap length zn ∙ n .3 in
       let four : length xs ≤ 4 = omega (arith, n .3) in
-      let ok : namesWithin 4 W xs ≡ true = both₃ (le-leb (length xs) 4 four) (n .1) (n .2) in
+      let ok = are-few 4 _ (isName W) xs four (n .1) (n .2) in
       let k : 4 - length (valueWords vs) ≡ 4 - f = omega (arith, length-values vs, v .1) in
       let s1 = span-word w (at + 1) (omega arith) in
       let s2 = v .2 in
@@ -116,12 +117,12 @@ module _ (K : List ℕ) (a W : ℕ) (w : List ℕ) (few : W ≤ 64) where
       let j2 : Spans w (at + 1) (at + 2 + f) (x ∷ valueWords vs) = span-join w (at + 1) (at + 2) (at + 2 + f) (x ∷ []) (valueWords vs) (span-end w (at + 1) (at + 1 + 1) (at + 2) (x ∷ []) s1 (omega arith)) s2 in
       let j3 : Spans w (at + 1) (at + slotBody) (x ∷ (valueWords vs ++ zeros (4 - f))) = span-end w (at + 1) (at + 2 + f + (4 - f)) (at + slotBody) (x ∷ (valueWords vs ++ zeros (4 - f))) (span-join w (at + 1) (at + 2 + f) (at + 2 + f + (4 - f)) (x ∷ valueWords vs) (zeros (4 - f)) j2 s3) (omega arith) in (
         F,
-        (c, rw zn ok, held-all P F (rw zv (all-is (allowed K a) P (λ y k. k) vs (q .2))), (omega arith, rw zn (within-fits W few 4 xs ok .1), rw zv (v .0))),
+        (c, rw zn ok, held-all P F (rw zv (all-is (allowed K a) P (λ y k. k) vs (q .2))), (omega arith, rw zn (fields-named-fit W few xs ok .1), rw zv (v .0))),
         rw (zn, zv, n .0, k) j3,
       )
 
   pub fields-complete : (at : ℕ) (F : List Field) (r : List ℕ) → FieldsAre (length F) F → drop (at + 1) w ≡ fieldWords F ++ r → fieldsAt K a W w (length F) at ≡ true
-  unfolding fieldsAt namesWithin fieldWords
+  unfolding fieldsAt fieldWords
   fields-complete at F r h e =
       let f = length F in
       let xs = fieldNames F in
@@ -136,7 +137,7 @@ module _ (K : List ℕ) (a W : ℕ) (w : List ℕ) (few : W ≤ 64) where
       let one : at + 1 + 1 ≡ at + 2 = omega arith in
       let d2 : drop (at + 2) w ≡ valueWords vs ++ z = ap (λ i. drop i w) (sym one) ∙ drop-next w (at + 1) x _ d in
       let d3 : drop (at + 2 + f) w ≡ z = ap (λ i. drop (at + 2 + i) w) (sym (length-values vs ∙ cv)) ∙ drop-past w (at + 2) (valueWords vs) z d2 in
-      let g = and₃ (leb (length xs) 4) (distinct xs) (all (isName W) xs) (h .1) in
+      let g = few-are 4 _ _ xs (h .1) in
       let n : namesHold W f (getD w (at + 1) 0) ≡ true = rw (drop-first w (at + 1) x _ d, ← cn) (word-names W xs (h .3 .1) (g .1) (g .2)) in
       let v : valuesAt w f (at + 2) ≡ some vs = ap (λ i. valuesAt w i (at + 2)) (sym cv) ∙ values-read vs w (at + 2) z (h .3 .2) d2 in
       both₄ (lt-ltb f 5 (omega arith)) n (some-within (all (allowed K a)) (valuesAt w f (at + 2)) vs v (is-all (allowed K a) P (λ y k. k) vs (fields-all P F (h .2)))) (zeros-read (4 - f) w (at + 2 + f) r d3)

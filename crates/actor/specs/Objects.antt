@@ -8,14 +8,14 @@ use native.Mathlib.Omega.{arith}
 use borrow.Author.Tests.{eqb-true, eq-eqb}
 use lib.Dec.{eqb}
 use lib.ListN.{length, drop, getD}
-use Rattle.atlite.specs.Term.{this, Value, Methods, methodNames}
+use Rattle.atlite.specs.Term.{this, Value, Methods, signatures}
 use Rattle.atlite.specs.State.{Field, Tag, Entity, object}
-use Rattle.atlite.specs.Valid.{namesWithin, HeldBy, WellFormedMethods, IsEntity}
+use Rattle.atlite.specs.Valid.{methodsNamed, HeldBy, WellFormedMethods, IsEntity}
 use Rattle.atlite.specs.Facts.{and₃, both₃}
 use Rattle.invariant.specs.TermTests.{Is}
 use Rattle.layout.specs.Numbers.{digitLimit, digitsLimit, slotUnit, slotSize, slotBody, bodiesSize}
 use Rattle.layout.specs.Terms.{countMethods, encodeMethods}
-use Rattle.layout.specs.Fitting.{within-fits, count-methods}
+use Rattle.layout.specs.Fitting.{methods-named-fit, count-methods}
 use Rattle.layout.specs.Layout.{slotHead, tagNumber, slot, methodsOf}
 use Rattle.layout.specs.Slots.{EntityFits, tag-low, head-kind, head-fields}
 use Rattle.layout.specs.ParseSound.{MethodsAt}
@@ -51,8 +51,8 @@ module _ (K : List ℕ) (a W : ℕ) (w B : List ℕ) (few : W ≤ 64) where
 
   -- f answers where m methods end that begin at b, for the bodies of objects or of isolates
   pub record Judges (t : Tag) (f : ℕ → ℕ → ℕ) : Type 0 where
-    pub sound : (m b : ℕ) → f m b ≤ bodiesSize → (M : Methods) × MethodsAt B m b M (f m b) × (namesWithin 4 W (methodNames M) ≡ true) × WellFormedMethods M W (HeldBy t P) (this ∷ [])
-    pub complete : (m b e : ℕ) (M : Methods) → MethodsAt B m b M e → namesWithin 4 W (methodNames M) ≡ true → WellFormedMethods M W (HeldBy t P) (this ∷ []) → f m b ≡ e
+    pub sound : (m b : ℕ) → f m b ≤ bodiesSize → (M : Methods) × MethodsAt B m b M (f m b) × (methodsNamed W (signatures M) ≡ true) × WellFormedMethods M W (HeldBy t P) (this ∷ [])
+    pub complete : (m b e : ℕ) (M : Methods) → MethodsAt B m b M e → methodsNamed W (signatures M) ≡ true → WellFormedMethods M W (HeldBy t P) (this ∷ []) → f m b ≡ e
 
   -- the n-th entity of its series in the slot at `at`, its methods from b to e
   abbrev pub Here : ℕ → ℕ → ℕ → Entity → ℕ → Type 0
@@ -76,7 +76,7 @@ module _ (K : List ℕ) (a W : ℕ) (w B : List ℕ) (few : W ≤ 64) where
         let last = eqb-true (getD w (at + 7) 0) 0 (r .1) in
         let end = eqb-true (b + getD w (at + slotBody) 0) (f m b) (r .2) in
         let size : getD w (at + slotBody) 0 ≡ length (encodeMethods M) = omega (arith, g .1 .2 .1) in
-        let c : countMethods M ≤ 4 = omega (arith, within-fits W few 4 (methodNames M) (g .2) .0, count-methods M) in
+        let c : countMethods M ≤ 4 = omega (arith, methods-named-fit W few (signatures M) (g .2) .0, count-methods M) in
         let head : slotHead (tagNumber t) (length F) (countMethods M) n ≡ x = ap₂ (λ u v. slotHead (tagNumber t) u v n) (q .1 .0) (g .1 .1) ∙ head-sum x (tagNumber t) (x / digitLimit % digitLimit) m n k refl refl num in
         let c6 = length (encodeMethods M) in
         let s6 = span-is w (at + slotBody) (at + 7) c6 (omega arith) (omega arith) size in

@@ -1,11 +1,12 @@
 -- What is asked of a script that is of the grammar: that its variables are bound (cause 3), and that no list names one thing
--- twice (cause 4). Assumes nothing.
+-- twice (cause 4), a method being named by its signature. Assumes nothing.
 use Prim.Native.Nat.{ℕ}
 use mathlib.Core.Bool.{Bool, true, _&&_, not}
 use mathlib.Core.List.{List, [], _∷_, _++_}
+use lib.ListN.{length}
 use lib.Dec.{eqb}
-use Rattle.atlite.specs.Base.{member, distinct}
-use Rattle.atlite.specs.Term.{this, seen}
+use Rattle.atlite.specs.Base.{member, distinct, distinctBy}
+use Rattle.atlite.specs.Term.{this, Signature, sameSignature, seen}
 use Rattle.atlite.specs.Script.{Src, num, null, var, op, letIn, future, fn, when, literal, Srcs, nil, cons, SrcFields, noField, field, SrcMethods, noMethod, method}
 
 -- Under the words xs every variable is bound; `this` needs no binder.
@@ -37,11 +38,11 @@ unfoldable pub fieldNames : SrcFields → List ℕ
 fieldNames noField = []
 fieldNames (field f e fs) = f ∷ fieldNames fs
 
-unfoldable pub methodNames : SrcMethods → List ℕ
-methodNames noMethod = []
-methodNames (method m xs e ms) = m ∷ methodNames ms
+unfoldable pub signatures : SrcMethods → List Signature
+signatures noMethod = []
+signatures (method m xs e ms) = (m, length xs) ∷ signatures ms
 
--- Names are single in each list of fields, methods and parameters, and in the pair of a future.
+-- Names are single in each list of fields and parameters and in the pair of a future, and signatures in each list of methods.
 unfoldable mutual
   pub single : Src → Bool
   single (num n) = true
@@ -52,7 +53,7 @@ unfoldable mutual
   single (future x y e) = not (eqb x y) && single e
   single (fn x e) = single e
   single (when e x d) = single e && single d
-  single (literal k fs ms) = distinct (fieldNames fs) && distinct (methodNames ms) && singleFields fs && singleMethods ms
+  single (literal k fs ms) = distinct (fieldNames fs) && distinctBy sameSignature (signatures ms) && singleFields fs && singleMethods ms
 
   pub singleAll : Srcs → Bool
   singleAll nil = true
@@ -67,5 +68,5 @@ unfoldable mutual
   singleMethods (method m xs e ms) = distinct xs && single e && singleMethods ms
 
 unfoldable pub Scope : Unit {0}
-unfolding bound fieldNames methodNames single
+unfolding bound fieldNames signatures single
 Scope = tt

@@ -9,10 +9,10 @@ use mathlib.Core.Option.{Option, none, some}
 use lib.ListN.{length}
 use lib.Dec.{eqb, leb, ltb}
 use Rattle.atlite.specs.Base.{member, all}
-use Rattle.atlite.specs.Term.{this, top, made, Value, null, num, ref, Kind, isolate, actor, Term, val, var, op, letIn, literal, Terms, nil, cons, Inits, noField, Methods, noMethod, method, countTerms, initNames, methodNames, seen}
+use Rattle.atlite.specs.Term.{this, top, made, Value, null, num, ref, Kind, isolate, actor, Term, val, var, op, letIn, literal, Terms, nil, cons, Inits, noField, Methods, noMethod, method, countTerms, initNames, signatures, seen}
 use Rattle.atlite.specs.State.{Message, message, Field, field, Tag, O, I, Entity, object, future, resolver, Actor, State, entityAt, isFuture, isIsolate, fieldNames, sameValue}
 use Rattle.atlite.specs.Limits.{full, withinLimits}
-use Rattle.atlite.specs.Valid.{isVariable, namesWithin, parameters, sendable, operable, wordsHold, unreferring}
+use Rattle.atlite.specs.Valid.{isVariable, fieldsNamed, methodsNamed, parameters, sendable, operable, wordsHold, unreferring}
 
 unfoldable pub held : Kind → (Value → Bool) → Value → Bool
 held Kind.object p = p
@@ -27,8 +27,8 @@ unfoldable mutual
   wellFormed w p xs (letIn x e d) = isVariable w x && wellFormed w p xs e && wellFormed w p (x ∷ xs) d
   wellFormed w p xs (Term.future x y e) = isVariable w x && isVariable w y && not (eqb x y) && wellFormed w p (x ∷ y ∷ xs) e
   wellFormed w p xs (literal k fs ms) =
-      namesWithin 4 w (initNames fs)
-      && namesWithin 4 w (methodNames ms)
+      fieldsNamed w (initNames fs)
+      && methodsNamed w (signatures ms)
       && wellFormedInits w (held k p) (this ∷ seen k xs) fs
       && wellFormedMethods w (held k p) (this ∷ seen k xs) ms
 
@@ -81,9 +81,9 @@ noMessage (m ∷ q) = false
 unfoldable pub entityHolds : State → ℕ → ℕ → Entity → Bool
 entityHolds σ a n (object t F M) =
     let w = length (σ .words) in
-    namesWithin 4 w (fieldNames F)
+    fieldsNamed w (fieldNames F)
     && fieldsHold (holdable σ a) F
-    && namesWithin 4 w (methodNames M)
+    && methodsNamed w (signatures M)
     && wellFormedMethods w (heldBy t (holdable σ a)) (this ∷ []) M
 entityHolds σ a n (future none q) = all (waits σ a n) q
 entityHolds σ a n (future (some v) q) = holdable σ a v && not (isFuture σ v) && noMessage q

@@ -5,10 +5,10 @@ use mathlib.Core.Path.{_≡_, refl}
 use mathlib.Core.Bool.{Bool, true, false, _&&_, not}
 use mathlib.Core.List.{List, [], _∷_, _++_}
 use mathlib.Core.Option.{Option, none, some}
-use lib.ListN.{getElem?}
+use lib.ListN.{length, getElem?}
 use lib.Dec.{eqb, leb}
 use Rattle.atlite.specs.Base.{Result, done, refused, _>>=_, _>>_, orRefuse, require, if_then_else_}
-use Rattle.atlite.specs.Term.{made, Series, Value, null, num, ref, Name, plain, twoWay, resolve, register, Kind, isolate, actor, Op, plus, percent, choose, get, set, call, send, Term, val, var, op, letIn, literal, Terms, nil, cons, Inits, Methods, noMethod, method, valuesOf, isValue}
+use Rattle.atlite.specs.Term.{made, Series, Value, null, num, ref, Name, plain, twoWay, resolve, register, Kind, isolate, actor, Op, plus, percent, choose, get, set, call, send, Term, val, var, op, letIn, literal, Terms, nil, cons, Inits, Methods, noMethod, method, valuesOf, isValue, sameSignature}
 use Rattle.atlite.specs.State.{Message, message, Entity, object, future, resolver, Actor, State, withInbox, fieldOf}
 use Rattle.atlite.specs.Outcome.{Copy, entity, own, namesFuture}
 use Rattle.atlite.specs.Passing.{meet, reach, heldValues, isolatesFor}
@@ -111,7 +111,7 @@ methods-caused (resolver n) = stopped refl
 invoke-caused : (M : Methods) (m : ℕ) (v : Value) (vs : List Value) → Caused (invoke M m v vs)
 unfolding invoke
 invoke-caused noMethod m v vs = stopped refl
-invoke-caused (method k xs e M) m v vs = either (eqb k m) (tested 12 _ refl fine) (invoke-caused M m v vs)
+invoke-caused (method k xs e M) m v vs = either (sameSignature (k, length xs) (m, length vs)) fine (invoke-caused M m v vs)
 
 call-caused : (a : ℕ) (A : Actor) (v : Value) (m : ℕ) (vs : List Value) → Caused (callRule a A v m vs)
 unfolding callRule

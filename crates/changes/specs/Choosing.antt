@@ -3,7 +3,7 @@
 -- What a script writes as (if c d e) is `choose` among the operators. A rule is stated by any rules of the two, so that a rule without them is an
 -- instance: where the redex is neither, its move is the same whatever they are.
 use Prim.Native.Nat.{ℕ}
-use mathlib.Core.Path.{_≡_, refl, ap, _∙_}
+use mathlib.Core.Path.{_≡_, refl, ap}
 use mathlib.Core.Bool.{Bool, true, false, _||_}
 use mathlib.Core.List.{List}
 use mathlib.Core.Option.{some}
@@ -20,9 +20,9 @@ use Rattle.atlite.specs.Redex.{redex}
 use Rattle.atlite.specs.Outcome.{inner, Outcome, becomes}
 use Rattle.atlite.specs.Rules.{number, sameRule, saysNo, choice, chooseRule, pairOf, oneOf, operate, rule}
 use Rattle.atlite.specs.Limits.{Bounds}
-use Rattle.atlite.specs.Move.{takeRule, moveWithin}
+use Rattle.atlite.specs.Move.{moveWithin}
 use Rattle.layout.specs.Terms.{opKind}
-use Rattle.changes.specs.MoveBy.{Rule, turnBy, moveBy, move-agrees, move-now}
+use Rattle.changes.specs.MoveBy.{Rule, moveBy, redex-agrees}
 
 -- ---- if
 -- only the first part is on the way to the redex
@@ -119,7 +119,4 @@ rule-before X s a A (literal k fs ms) h = refl
 
 -- A move answers and leaves what it does without the two, refusals too, unless the actor's redex is one of them.
 pub move-before : (X : TwoRules) (B : Bounds) (σ : State) (a : ℕ) → ((A : Actor) → getElem? (σ .actors) a ≡ some A → chooses (redex (A .expr)) ≡ false) → moveBy (ruleBy X) B σ a ≡ moveWithin B σ a
-unfolding turnBy
-move-before X B σ a h =
-    move-agrees (ruleBy X) rule B σ a (λ A e. ap (λ r. if isValue (A .expr) then takeRule a A (A .inbox) else r) (rule-before X (σ .actors) a A (redex (A .expr)) (h A e)))
-    ∙ move-now B σ a
+move-before X B σ a h = redex-agrees (ruleBy X) B σ a λ A e. rule-before X (σ .actors) a A (redex (A .expr)) (h A e)

@@ -61,3 +61,30 @@ choices =
 pub choices-made : all agrees choices ≡ true
 unfolding All row agrees choices
 choices-made = refl
+
+-- P3: other names of parameters make no other method, wherever the literal stands, and another count does; each of two methods of one name is
+-- called, in whichever order they stand, also by a message; where none has the count, the call is refused and nothing else is; the resolver of a
+-- two-way message is not counted, and a count that no method has shows at the call, after the take; a listing has them all, as they are written
+unfoldable pub overloads : List Example
+unfolding row
+overloads =
+    row "0\n(object (method cut (l) l) (method cut (w) w))\n" "(refused 4)\n"
+    ∷ row "0\n(fn x (object (method a () 1) (method b () 2) (method a () 3)))\n" "(refused 4)\n"
+    ∷ row "00\n(object (method cut (l) l) (method cut (l w) w))\n" "I 9\n(actor 0 1 1 0 (ref 0 m 0))\n(object 0 m 0 (method cut (l) l) (method cut (l w) w))\n"
+    ∷ row "000000\n(let o (object (method cut (l) l) (method cut (l w) (plus l w))) (plus (call o cut 3) (call o cut 3 4)))\n"
+    "I I I I I I\n(actor 0 6 1 0 10)\n(object 0 m 0 (method cut (l) l) (method cut (l w) (plus l w)))\n"
+    ∷ row "000000\n(let o (object (method cut (l w) (plus l w)) (method cut (l) l)) (plus (call o cut 3) (call o cut 3 4)))\n"
+    "I I I I I I\n(actor 0 6 1 0 10)\n(object 0 m 0 (method cut (l w) (plus l w)) (method cut (l) l))\n"
+    ∷ row "0011\n(send (actor (method m (x) x) (method m (x y) y)) m 1 2)\n" "C1 S1 T I\n(actor 0 2 0 0 null)\n(actor 1 2 1 0 2)\n(object 1 m 0 (method m (x) x) (method m (x y) y))\n"
+    ∷ row "000\n(call (object (method m () 1) (method m (x y) 2)) m 5)\n" "I 12 12\n(actor 0 1 1 0 (call (ref 0 m 0) m 5))\n(object 0 m 0 (method m () 1) (method m (x y) 2))\n"
+    ∷ row "000000000000\n(ask (object (method m (x) (plus x 1)) (method m (x y) 7)) m 5)\n"
+    "I I S0 I T I I I I I I I\n(actor 0 12 4 0 (send (ref 0 m 3) apply 6))\n(future 0 m 0 open)\n(resolver 0 m 1 0)\n(object 0 m 2 (method m (x) (plus x 1)) (method m (x y) 7))\n(object 0 m 3 (method apply (.x) (send (ref 0 m 1) .resolve .x)))\n"
+    ∷ row "00000000000\n(ask (object (method m () 1)) m 5)\n"
+    "I I S0 I T I I I I 12 12\n(actor 0 9 4 0 (send (call (ref 0 m 2) m 5) .register (ref 0 m 3)))\n(future 0 m 0 open)\n(resolver 0 m 1 0)\n(object 0 m 2 (method m () 1))\n(object 0 m 3 (method apply (.x) (send (ref 0 m 1) .resolve .x)))\n"
+    ∷ row "0\n(isolate (method m () 0) (method m (x) x) (method m (x y) y) (method m (x y z) z))\n"
+    "I\n(actor 0 1 1 0 (ref 0 m 0))\n(isolate 0 m 0 (method m () 0) (method m (x) x) (method m (x y) y) (method m (x y z) z))\n"
+    ∷ []
+
+pub overloads-called : all agrees overloads ≡ true
+unfolding All row agrees overloads
+overloads-called = refl

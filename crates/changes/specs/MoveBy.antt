@@ -1,5 +1,6 @@
 -- A move, a run and their calls by any rule for the redex: by the present rule they are the present ones. So a request can state what they were
--- before it. Assumes nothing.
+-- before it. Where a rule makes the present moves in every state of a kind, and moves stay in that kind, it makes the present runs and calls.
+-- Assumes nothing.
 use Prim.Native.Nat.{ℕ}
 use mathlib.Core.Path.{_≡_, refl, ap, _∙_}
 use mathlib.Core.List.{List, [], _∷_}
@@ -15,7 +16,7 @@ use Rattle.atlite.specs.Limits.{Bounds, full}
 use Rattle.atlite.specs.Move.{takeRule, turn, free, Answer, Moved, limited, moveWithin, move}
 use Rattle.atlite.specs.Run.{Counts, Ran, begun, after, runFrom, run}
 use Rattle.layout.specs.Layout.{encode}
-use Rattle.layout.specs.Meaning.{Reply, answered, lent}
+use Rattle.layout.specs.Meaning.{Reply, answered, lent, moveCall, runCall}
 
 abbrev pub Rule : Type 0
 Rule = List Actor → ℕ → Actor → Term → Result Outcome
@@ -67,6 +68,12 @@ move-now B σ a = go (getElem? (σ .actors) a)
     go none = refl
     go (some A) = refl
 
+-- so a rule that agrees with the present one on the actor's redex makes the present move
+pub redex-agrees : (R : Rule) (B : Bounds) (σ : State) (a : ℕ)
+    → ((A : Actor) → getElem? (σ .actors) a ≡ some A → R (σ .actors) a A (redex (A .expr)) ≡ rule (σ .actors) a A (redex (A .expr))) → moveBy R B σ a ≡ moveWithin B σ a
+unfolding turnBy
+redex-agrees R B σ a h = move-agrees R rule B σ a (λ A e. ap (λ r. if isValue (A .expr) then takeRule a A (A .inbox) else r) (h A e)) ∙ move-now B σ a
+
 from-now : (R : Ran) (es : List ℕ) → runFromBy rule R es ≡ runFrom R es
 unfolding runFromBy runFrom move
 from-now R [] = refl
@@ -75,3 +82,55 @@ from-now R (a ∷ es) = ap (λ m. runFromBy rule (after R m) es) (move-now full 
 pub run-now : (σ : State) (es : List ℕ) → runBy rule σ es ≡ run σ es
 unfolding runBy run
 run-now σ es = from-now (begun σ) es
+
+-- ---- a kind of states that moves stay in
+abbrev pub Kept : (State → Type 0) → Type 0
+Kept K = (B : Bounds) (σ : State) (a : ℕ) (M : Moved) → K σ → moveWithin B σ a ≡ done M → K (M .state)
+
+module _ (K : State → Type 0) (k : Kept K) where
+  after-kept : (r : Ran) (a : ℕ) → K (r .state) → K (after r (move (r .state) a) .state)
+  unfolding after move
+  after-kept r a h = go (move (r .state) a) refl
+    where
+      go : (m : Result Moved) → move (r .state) a ≡ m → K (after r m .state)
+      go (refused n) e = h
+      go (done M) e = k full (r .state) a M h e
+
+  from-kept : (r : Ran) (es : List ℕ) → K (r .state) → K (runFrom r es .state)
+  unfolding runFrom
+  from-kept r [] h = h
+  from-kept r (a ∷ es) h = from-kept (after r (move (r .state) a)) es (after-kept r a h)
+
+  -- runs stay in it too,
+  pub run-kept : (σ : State) (es : List ℕ) → K σ → K (run σ es .state)
+  unfolding run
+  run-kept σ es h = from-kept (begun σ) es h
+
+  -- and a rule that makes the present moves in it:
+  module _ (R : Rule) (same : (B : Bounds) (σ : State) (a : ℕ) → K σ → moveBy R B σ a ≡ moveWithin B σ a) where
+    from-same : (r : Ran) (es : List ℕ) → K (r .state) → runFromBy R r es ≡ runFrom r es
+    unfolding runFromBy runFrom move
+    from-same r [] h = refl
+    from-same r (a ∷ es) h = ap (λ m. runFromBy R (after r m) es) (same full (r .state) a h) ∙ from-same (after r (move (r .state) a)) es (after-kept r a h)
+
+    -- its runs make and refuse as many moves and end in the same state,
+    pub run-same : (σ : State) (es : List ℕ) → K σ → runBy R σ es ≡ run σ es
+    unfolding runBy run
+    run-same σ es h = from-same (begun σ) es h
+
+    -- and its calls give the same answers and the same words, where the lent words are no state, or one of the kind
+    module _ (w : List ℕ) (h : (σ : State) → lent w ≡ done σ → K σ) where
+      calls-agree : {A : Type 0} (f g : State → Result (A × List ℕ)) → ((σ : State) → K σ → f σ ≡ g σ) → answered w (lent w >>= f) ≡ answered w (lent w >>= g)
+      calls-agree {A} f g e = ap (answered w) (go (lent w) refl)
+        where
+          go : (L : Result State) → lent w ≡ L → (L >>= f) ≡ (L >>= g)
+          go (refused n) i = refl
+          go (done σ) i = e σ (h σ i)
+
+      pub move-call-same : (a : ℕ) → moveCallBy R w a ≡ moveCall w a
+      unfolding moveCallBy moveCall move
+      move-call-same a = calls-agree _ _ λ σ i. ap (λ r. r >>= λ M. done (M .answer, encode (M .state))) (same full σ a i)
+
+      pub run-call-same : (es : List ℕ) → runCallBy R w es ≡ runCall w es
+      unfolding runCallBy runCall
+      run-call-same es = calls-agree _ _ λ σ i. ap (λ (r : Ran). done (r .counts, encode (r .state))) (run-same σ es i)

@@ -19,11 +19,11 @@ use Rattle.atlite.specs.Outcome.{inner, sends, Outcome, becomes}
 use Rattle.atlite.specs.Passing.{isolatesFor}
 use Rattle.atlite.specs.Rules.{sendApply, forward, ownerlessRule, sendRule, receiverOf, operate, rule}
 use Rattle.atlite.specs.Limits.{Bounds, full}
-use Rattle.atlite.specs.Move.{takeRule, Answer, Moved, limited, moveWithin, move}
+use Rattle.atlite.specs.Move.{Answer, Moved, limited, moveWithin, move}
 use Rattle.layout.specs.Kinds.{Row, isBare, isField, isCall, isSend, row}
 use Rattle.layout.specs.Layout.{encode}
 use Rattle.layout.specs.Meaning.{Reply, answered, lent, moveCall}
-use Rattle.changes.specs.MoveBy.{turnBy, moveBy, moveCallBy, move-agrees, move-now}
+use Rattle.changes.specs.MoveBy.{turnBy, moveBy, moveCallBy, redex-agrees}
 
 -- ---- what null takes
 -- the listener that a .register brings to it is sent null, in one move inside the expression
@@ -94,10 +94,7 @@ rule-now s a A (future x y e) = refl
 rule-now s a A (literal k fs ms) = refl
 
 pub send-now : (B : Bounds) (σ : State) (a : ℕ) → moveBy (ruleBy sendRule) B σ a ≡ moveWithin B σ a
-unfolding turnBy
-send-now B σ a =
-    move-agrees (ruleBy sendRule) rule B σ a (λ A h. ap (λ r. if isValue (A .expr) then takeRule a A (A .inbox) else r) (rule-now (σ .actors) a A (redex (A .expr))))
-    ∙ move-now B σ a
+send-now B σ a = redex-agrees (ruleBy sendRule) B σ a λ A h. rule-now (σ .actors) a A (redex (A .expr))
 
 -- ---- what was: the same, or a refusal with 10 where P holds
 pub data Was (P : Type 0) {A : Type 0} (old new : Result A) : Type 0 where

@@ -123,7 +123,7 @@ module _ (ws : List Bytes) (R S : Reading Src) (h : Reads WithoutSrc R S) where
   form-reads future k i = step (spacedWord ws i) λ (x, i₁). step (spacedWord ws i₁) λ (y, i₂). bind (spaced-reads i₂) λ (e, i₃) p. step (eat close i₃) λ i₄. holds (refl, p)
   form-reads fn k i = step (spacedWord ws i) λ (x, i₁). bind (spaced-reads i₁) λ (e, i₂) p. step (eat close i₂) λ i₃. holds (refl, p)
   form-reads when k i = bind (spaced-reads i) λ (e, i₁) p. step (spacedWord ws i₁) λ (x, i₂). bind (spaced-reads i₂) λ (d, i₃) q. step (eat close i₃) λ i₄. holds (refl, (p, q))
-  form-reads (literal k) n i = bind (fields-read 4 i) λ (fs, i₁) p. bind (methods-read 4 i₁) λ (ms, i₂) q. step (eat close i₂) λ i₃. holds (refl, (p, q))
+  form-reads (literal k) n i = bind (fields-read 4 i) λ (fs, i₁) p. bind (methods-read 4 i₁) λ (ms, i₂) q. step (eat close i₂) λ i₃. holds (refl, (p, (tt, q)))
 
 -- ---- texts, by operators os that are former ones, and by more
 -- the operator that a word spells

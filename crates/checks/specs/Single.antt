@@ -1,5 +1,5 @@
--- That names are single, over trees: a number keeps the names of the headers before, in 12 bits each; a list has at most four, so three
--- are enough to compare a name with. Assumes nothing.
+-- That names are single, over trees: a number keeps the signatures of the headers before, in 14 bits each. A field's is its name. Assumes
+-- nothing.
 use Prim.Native.Nat.{ℕ, _+_, _-_, _*_, _/_, _%_, _≤_, _<_}
 use mathlib.Core.Path.{_≡_, sym, ap, _∙_}
 use mathlib.Core.Bool.{Bool, true, false, cond, _&&_, not}
@@ -10,61 +10,39 @@ use borrow.Author.Tests.{eq-eqb, ne-eqb, lt-ltb, le-ltb}
 use lib.Dec.{eqb, ltb}
 use lib.ListN.{length, getD}
 use Rattle.layout.specs.Numbers.{fieldKind}
-use Rattle.words.specs.Wide.{wideKinds, wideNames, wideLimit, wideParamsAt, wideThird}
+use Rattle.layout.specs.LastThree.{fresh, fresh-first, fresh-second, fresh-third, fresh-yes, room, noted as keep}
+use Rattle.words.specs.Wide.{wideKinds, wideLimit, wideThird, wideSigned, wideParamsAt}
 use Rattle.checks.specs.Trees.{Forest, empty, tree, words, count, outer, inner, Fits}
 use Rattle.checks.specs.TreeContract.{Here, length-tree, here-word, here-outer, here-inner, here-next, answer, chain, no-tree}
-
--- none of the names in n is x
-unfoldable pub fresh : ℕ → ℕ → Bool
-fresh n x = cond (eqb x (n % wideLimit)) false (cond (eqb x (n / wideLimit % wideLimit)) false (cond (eqb x (n / wideThird % wideLimit)) false true))
 
 -- of three places, filled from the first on and 0 where empty, no two are the same name
 unfoldable pub apart : ℕ → ℕ → ℕ → Bool
 apart x y z = cond (eqb y 0) true (cond (eqb x y) false (cond (eqb z 0) true (cond (eqb x z) false (cond (eqb y z) false true))))
 
--- the names that the word itself lists, and its own name in the list where it stands
+-- the names that the word itself lists, and its own signature in the list where it stands
 abbrev pub ownBy : ℕ → ℕ → ℕ → Bool
 ownBy k p n =
     cond (eqb k 12) (not (eqb (p % wideLimit) (p / wideLimit % wideLimit)))
-    (cond (eqb k fieldKind) (fresh n (p % wideLimit))
-    (cond (eqb k 192) (fresh n (p % wideLimit) && apart (p / wideParamsAt % wideLimit) (p / wideParamsAt / wideLimit % wideLimit) (p / wideParamsAt / wideThird % wideLimit))
+    (cond (eqb k fieldKind) (fresh wideSigned n (p % wideSigned))
+    (cond (eqb k 192) (fresh wideSigned n (p % wideSigned) && apart (p / wideParamsAt % wideLimit) (p / wideParamsAt / wideLimit % wideLimit) (p / wideParamsAt / wideThird % wideLimit))
     true))
 
 unfoldable pub own : ℕ → ℕ → Bool
 own h n = ownBy (h % wideKinds) (h / wideKinds) n
 
--- the names, with that of a header
+-- the signatures, with that of a header
 unfoldable pub noted : ℕ → ℕ → ℕ
-noted h n = cond (ltb (h % wideKinds) fieldKind) n (h / wideKinds % wideLimit + wideLimit * (n % wideNames))
+noted h n = cond (ltb (h % wideKinds) fieldKind) n (keep wideSigned n (h / wideKinds % wideSigned))
 
 unfoldable pub sing : Forest → ℕ → Bool
 sing empty n = true
 sing (tree h a c b) n = own h n && (sing a 0 && (sing c 0 && sing b (noted h n)))
 
--- the answer for n trees at `at`, behind the names in `names`
+-- the answer for n trees at `at`, behind the signatures in `names`
 unfoldable pub Walked : List ℕ → ℕ → ℕ → ℕ → ℕ → ℕ → Type 0
 Walked s end at n names r = (f : Forest) → Fits f → count f ≡ n → Here s end at (words f) → r ≡ answer (sing f names) (at + length (words f))
 
 -- ---- one word
-module _ (n x : ℕ) where
-  pub fresh-first : n % wideLimit ≡ x → false ≡ fresh n x
-  unfolding fresh
-  fresh-first e = rw (eq-eqb x (n % wideLimit) (sym e))
-
-  module _ (a : n % wideLimit ≡ x → ⊥) where
-    pub fresh-second : n / wideLimit % wideLimit ≡ x → false ≡ fresh n x
-    unfolding fresh
-    fresh-second e = rw (ne-eqb x (n % wideLimit) (λ i. a (sym i)), eq-eqb x (n / wideLimit % wideLimit) (sym e))
-
-    module _ (b : n / wideLimit % wideLimit ≡ x → ⊥) where
-      pub fresh-third : n / wideThird % wideLimit ≡ x → false ≡ fresh n x
-      unfolding fresh
-      fresh-third e = rw (ne-eqb x (n % wideLimit) (λ i. a (sym i)), ne-eqb x (n / wideLimit % wideLimit) (λ i. b (sym i)), eq-eqb x (n / wideThird % wideLimit) (sym e))
-
-      pub fresh-yes : (n / wideThird % wideLimit ≡ x → ⊥) → true ≡ fresh n x
-      unfolding fresh
-      fresh-yes c = rw (ne-eqb x (n % wideLimit) (λ i. a (sym i)), ne-eqb x (n / wideLimit % wideLimit) (λ i. b (sym i)), ne-eqb x (n / wideThird % wideLimit) (λ i. c (sym i)))
-
 module _ (x y z : ℕ) where
   pub apart-one : y ≡ 0 → true ≡ apart x y z
   unfolding apart
@@ -102,16 +80,16 @@ module _ (h n : ℕ) where
   unfolding own
   own-other k e = rw (k, ne-eqb (h / wideKinds % wideLimit) (h / wideKinds / wideLimit % wideLimit) e)
 
-  pub own-field : (r : Bool) → h % wideKinds ≡ fieldKind → r ≡ fresh n (h / wideKinds % wideLimit) → r ≡ own h n
+  pub own-field : (r : Bool) → h % wideKinds ≡ fieldKind → r ≡ fresh wideSigned n (h / wideKinds % wideSigned) → r ≡ own h n
   unfolding own
   own-field r k e = e ∙ rw k
 
-  pub own-method : (a r : Bool) → h % wideKinds ≡ 192 → a ≡ fresh n (h / wideKinds % wideLimit) → a ≡ true
+  pub own-method : (a r : Bool) → h % wideKinds ≡ 192 → a ≡ fresh wideSigned n (h / wideKinds % wideSigned) → a ≡ true
       → r ≡ apart (h / wideKinds / wideParamsAt % wideLimit) (h / wideKinds / wideParamsAt / wideLimit % wideLimit) (h / wideKinds / wideParamsAt / wideThird % wideLimit) → r ≡ own h n
   unfolding own
   own-method a r k e t i = i ∙ rw (k, sym e ∙ t)
 
-  pub own-taken : (a : Bool) → h % wideKinds ≡ 192 → a ≡ fresh n (h / wideKinds % wideLimit) → a ≡ false → false ≡ own h n
+  pub own-taken : (a : Bool) → h % wideKinds ≡ 192 → a ≡ fresh wideSigned n (h / wideKinds % wideSigned) → a ≡ false → false ≡ own h n
   unfolding own
   own-taken a k e t = rw (k, sym e ∙ t)
 
@@ -123,8 +101,8 @@ module _ (h n : ℕ) where
   unfolding noted
   noted-node l = rw (lt-ltb (h % wideKinds) fieldKind l)
 
-  pub noted-header : fieldKind ≤ h % wideKinds → h / wideKinds % wideLimit + wideLimit * (n % wideNames) ≡ noted h n
-  unfolding noted
+  pub noted-header : fieldKind ≤ h % wideKinds → h / wideKinds % wideSigned + wideSigned * (n % room wideSigned 3) ≡ noted h n
+  unfolding noted keep
   noted-header l = rw (le-ltb (h % wideKinds) fieldKind l)
 
 -- ---- the ways to return

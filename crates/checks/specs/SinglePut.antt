@@ -2,27 +2,29 @@
 use Prim.Native.Nat.{ℕ, _+_, _*_, _/_, _%_, _≤_, _<_}
 use mathlib.Core.Path.{_≡_, refl, sym, ap, _∙_}
 use mathlib.Core.Bool.{Bool, true, false, _&&_, not, and-true, and-assoc}
-use mathlib.Core.List.{List, [], _∷_}
+use mathlib.Core.List.{List, [], _∷_, map}
 use native.Mathlib.Omega.{arith}
 use borrow.Author.Tests.{lt-ltb, ne-eqb}
 use lib.Dec.{eqb}
 use lib.ListN.{length}
-use Rattle.atlite.specs.Base.{member, distinct}
-use Rattle.atlite.specs.Term.{Kind}
-use Rattle.atlite.specs.Scope.{single, singleAll, singleFields, singleMethods, fieldNames, methodNames}
+use Rattle.atlite.specs.Base.{member, distinct, distinctBy}
+use Rattle.atlite.specs.Term.{Kind, sameSignature}
+use Rattle.atlite.specs.Scope.{single, singleAll, singleFields, singleMethods, fieldNames, signatures}
 use Rattle.atlite.specs.Table.{countFields, countMethods, Grammatical, GrammaticalAll, GrammaticalFields, GrammaticalMethods}
 use Rattle.atlite.specs.Script.{SrcOp, Src, num, null, var, op, letIn, future, fn, when, literal, Srcs, nil, cons, SrcFields, noField, field, SrcMethods, noMethod, method, countSrcs}
 use Rattle.layout.specs.Numbers.{fieldKind}
 use Rattle.layout.specs.PackLaws.{Each}
+use Rattle.layout.specs.Signatures.{signed, Below, signed-distinct}
+use Rattle.layout.specs.LastThree.{distinctFrom, from-none, kept, kept-fresh}
 use Rattle.layout.specs.Terms.{kindNumber}
 use Rattle.layout.specs.Tables.{srcKind}
-use Rattle.words.specs.Wide.{wideKinds, wide, pair, wideParams, wideMethod, widePayload, wideLimit, wideParamsAt}
+use Rattle.words.specs.Wide.{wideKinds, wide, pair, wideParams, wideMethod, widePayload, wideLimit, wideSigned, wideParamsAt}
 use Rattle.checks.specs.Names.{Name, named, all-named}
 use Rattle.checks.specs.Operators.{op-passed}
 use Rattle.checks.specs.Trees.{Forest, empty, tree, put, putAll, putFields, putMethods}
 use Rattle.checks.specs.TreeFits.{kind-wide, payload-wide}
 use Rattle.checks.specs.Single.{ownBy, own, noted, sing}
-use Rattle.checks.specs.SingleNames.{packed, distinctFrom, from-none, Small, fresh-packed, noted-packed, apart-params}
+use Rattle.checks.specs.SingleNames.{Small, noted-kept, apart-params}
 
 own-wide : (k p n : ℕ) → k < wideKinds → own (wide k p) n ≡ ownBy k p n
 unfolding own
@@ -71,6 +73,11 @@ op-own o n p = let s = op-passed o in rw (ne-eqb (srcKind o) 12 (s .noFuture), n
 small : (w m : ℕ) → w ≤ 4000 → Name w m → m < wideLimit
 small w m l h = omega (arith, h .below)
 
+methods-small : (w : ℕ) (ms : SrcMethods) → w ≤ 4000 → GrammaticalMethods w ms → Each (Below wideLimit) (signatures ms)
+unfolding Grammatical signatures
+methods-small w noMethod l g = tt
+methods-small w (method m xs e ms) l g = (small w m l (named w m (g .0)), methods-small w ms l (g .4))
+
 future-own : (w x y n : ℕ) → w ≤ 4000 → Name w x → Name w y → ownBy 12 (pair x y) n ≡ not (eqb x y)
 future-own w x y n l hx hy =
     let h = small w x l hx in
@@ -94,23 +101,27 @@ method-turn true false b true s = refl
 method-turn true false b false s = refl
 method-turn false x b d s = refl
 
-a-field : (w f : ℕ) (ns : List ℕ) (a r : Forest) (A D S : Bool) → w ≤ 4000 → Name w f → length ns ≤ 3 → Each Small ns → sing a 0 ≡ A → sing r (packed (f ∷ ns)) ≡ D && S
-    → sing (tree (wide fieldKind f) a empty r) (packed ns) ≡ (not (member f ns) && D) && (A && S)
+a-field : (w f : ℕ) (ns : List ℕ) (a r : Forest) (A D S : Bool) → w ≤ 4000 → Name w f → length ns ≤ 3 → Each Small ns → sing a 0 ≡ A → sing r (kept wideSigned (f ∷ ns)) ≡ D && S
+    → sing (tree (wide fieldKind f) a empty r) (kept wideSigned ns) ≡ (not (member f ns) && D) && (A && S)
 unfolding sing
 a-field w f ns a r A D S l hf ln hn x y =
-    let m : f % wideLimit ≡ f = omega (arith, hf .below) in
-    let o : own (wide fieldKind f) (packed ns) ≡ not (member f ns) = own-wide fieldKind f (packed ns) (omega arith) ∙ rw m (fresh-packed ns f ln hn (omega (arith, hf .above))) in
-    rw (o, noted-packed fieldKind f f ns (omega arith) (omega arith) ln hn m, x, y) (field-turn (not (member f ns)) A D S)
+    let m : f % wideSigned ≡ f = omega (arith, hf .below) in
+    let o : own (wide fieldKind f) (kept wideSigned ns) ≡ not (member f ns) = own-wide fieldKind f (kept wideSigned ns) (omega arith) ∙ rw m (kept-fresh wideSigned (omega arith) ns f (omega (arith, hf .above)) ln hn) in
+    rw (o, noted-kept fieldKind f f ns (omega arith) (omega arith) ln hn m, x, y) (field-turn (not (member f ns)) A D S)
 
-a-method : (w m : ℕ) (xs ns : List ℕ) (c r : Forest) (C D S : Bool) → w ≤ 4000 → Name w m → length xs ≤ 3 → Each (Name w) xs → length ns ≤ 3 → Each Small ns → sing c 0 ≡ C → sing r (packed (m ∷ ns)) ≡ D && S
-    → sing (tree (wideMethod m xs) empty c r) (packed ns) ≡ (not (member m ns) && D) && (distinct xs && C && S)
+-- a method's signature as a number
+abbrev sign : ℕ → List ℕ → ℕ
+sign m xs = signed wideLimit (m, length xs)
+
+a-method : (w m : ℕ) (xs ns : List ℕ) (c r : Forest) (C D S : Bool) → w ≤ 4000 → Name w m → length xs ≤ 3 → Each (Name w) xs → length ns ≤ 3 → Each Small ns → sing c 0 ≡ C → sing r (kept wideSigned (sign m xs ∷ ns)) ≡ D && S
+    → sing (tree (wideMethod m xs) empty c r) (kept wideSigned ns) ≡ (not (member (sign m xs) ns) && D) && (distinct xs && C && S)
 unfolding sing wideMethod
 a-method w m xs ns c r C D S l hm lx hx ln hn y z =
-    let e : pair m (length xs + 4 * wideParams xs) % wideLimit ≡ m = omega (arith, hm .below) in
+    let e : pair m (length xs + 4 * wideParams xs) % wideSigned ≡ sign m xs = omega (arith, hm .below) in
     let q : pair m (length xs + 4 * wideParams xs) / wideParamsAt ≡ wideParams xs = omega (arith, hm .below) in
-    let o : own (wide 192 (pair m (length xs + 4 * wideParams xs))) (packed ns) ≡ not (member m ns) && distinct xs
-    = own-wide 192 (pair m (length xs + 4 * wideParams xs)) (packed ns) (omega arith) ∙ rw (e, q, fresh-packed ns m ln hn (omega (arith, hm .above)), apart-params w xs l lx hx) in
-    rw (o, noted-packed 192 (pair m (length xs + 4 * wideParams xs)) m ns (omega arith) (omega arith) ln hn e, y, z) (method-turn (not (member m ns)) (distinct xs) C D S)
+    let o : own (wide 192 (pair m (length xs + 4 * wideParams xs))) (kept wideSigned ns) ≡ not (member (sign m xs) ns) && distinct xs
+    = own-wide 192 (pair m (length xs + 4 * wideParams xs)) (kept wideSigned ns) (omega arith) ∙ rw (e, q, kept-fresh wideSigned (omega arith) ns (sign m xs) (omega (arith, hm .above)) ln hn, apart-params w xs l lx hx) in
+    rw (o, noted-kept 192 (pair m (length xs + 4 * wideParams xs)) (sign m xs) ns (omega arith) (omega arith) ln hn e, y, z) (method-turn (not (member (sign m xs) ns)) (distinct xs) C D S)
 
 literal-turn : (f m s t r : Bool) → (f && s) && (m && t) && r ≡ (f && m && s && t) && r
 literal-turn true true s t r = refl
@@ -125,7 +136,7 @@ a-literal Kind.isolate p n a c r A C x y = both 16 p n a c r A C (omega arith) r
 a-literal Kind.actor p n a c r A C x y = both 17 p n a c r A C (omega arith) refl x y
 
 mutual
-  unfolding put Grammatical single countFields countMethods fieldNames methodNames distinctFrom packed
+  unfolding put Grammatical single countFields countMethods fieldNames signatures distinctFrom kept
 
   pub sing-put : (e : Src) (r : Forest) (n w : ℕ) → w ≤ 4000 → Grammatical w e → sing (put e r) n ≡ single e && sing r n
   sing-put null r n w l g = leaf 1 0 n r (omega arith) refl
@@ -137,7 +148,8 @@ mutual
       node 12 (pair x y) n empty _ r (not (eqb x y)) true (single e) (omega arith) (future-own w x y n l (named w x (g .0)) (named w y (g .1))) sing-none (one _ (single e) (sing-put e empty 0 w l (g .2)))
   sing-put (literal k fs ms) r n w l g =
       a-literal k _ n _ _ r _ _ (sing-fields fs [] w l (omega (arith, g .0)) tt (g .1)) (sing-methods ms [] w l (omega (arith, g .2)) tt (g .3))
-      ∙ rw (from-none (fieldNames fs), from-none (methodNames ms)) (literal-turn (distinct (fieldNames fs)) (distinct (methodNames ms)) (singleFields fs) (singleMethods ms) (sing r n))
+      ∙ rw (from-none (fieldNames fs), from-none (map (signed wideLimit) (signatures ms)), signed-distinct wideLimit (signatures ms) (methods-small w ms l (g .3)))
+      (literal-turn (distinct (fieldNames fs)) (distinctBy sameSignature (signatures ms)) (singleFields fs) (singleMethods ms) (sing r n))
   sing-put (fn x e) r n w l g = second 65 x n _ r _ (omega arith) refl (one _ (single e) (sing-put e empty 0 w l (g .1)))
   sing-put (when a x b) r n w l g = both 67 x n _ _ r _ _ (omega arith) refl (one _ (single a) (sing-put a empty 0 w l (g .0))) (one _ (single b) (sing-put b empty 0 w l (g .2)))
 
@@ -146,15 +158,15 @@ mutual
   sing-all (cons e es) w l g = sing-put e (putAll es empty) 0 w l (g .0) ∙ ap (λ b. single e && b) (sing-all es w l (g .1)) ∙ sym (and-assoc (single e) (singleAll es) (sing empty 0))
 
   sing-fields : (fs : SrcFields) (ns : List ℕ) (w : ℕ) → w ≤ 4000 → length ns + countFields fs ≤ 4 → Each Small ns → GrammaticalFields w fs
-      → sing (putFields fs empty) (packed ns) ≡ distinctFrom ns (fieldNames fs) && singleFields fs
-  sing-fields noField ns w l k h g = no-more (packed ns)
+      → sing (putFields fs empty) (kept wideSigned ns) ≡ distinctFrom ns (fieldNames fs) && singleFields fs
+  sing-fields noField ns w l k h g = no-more (kept wideSigned ns)
   sing-fields (field f e fs) ns w l k h g =
       a-field w f ns _ _ (single e) (distinctFrom (f ∷ ns) (fieldNames fs)) (singleFields fs) l (named w f (g .0)) (omega arith) h (one _ (single e) (sing-put e empty 0 w l (g .1)))
-      (sing-fields fs (f ∷ ns) w l (omega arith) (small w f l (named w f (g .0)), h) (g .2))
+      (sing-fields fs (f ∷ ns) w l (omega arith) (omega (arith, small w f l (named w f (g .0))), h) (g .2))
 
   sing-methods : (ms : SrcMethods) (ns : List ℕ) (w : ℕ) → w ≤ 4000 → length ns + countMethods ms ≤ 4 → Each Small ns → GrammaticalMethods w ms
-      → sing (putMethods ms empty) (packed ns) ≡ distinctFrom ns (methodNames ms) && singleMethods ms
-  sing-methods noMethod ns w l k h g = no-more (packed ns)
+      → sing (putMethods ms empty) (kept wideSigned ns) ≡ distinctFrom ns (map (signed wideLimit) (signatures ms)) && singleMethods ms
+  sing-methods noMethod ns w l k h g = no-more (kept wideSigned ns)
   sing-methods (method m xs e ms) ns w l k h g =
-      a-method w m xs ns _ _ (single e) (distinctFrom (m ∷ ns) (methodNames ms)) (singleMethods ms) l (named w m (g .0)) (g .1) (all-named w xs (g .2)) (omega arith) h
-      (one _ (single e) (sing-put e empty 0 w l (g .3))) (sing-methods ms (m ∷ ns) w l (omega arith) (small w m l (named w m (g .0)), h) (g .4))
+      a-method w m xs ns _ _ (single e) (distinctFrom (sign m xs ∷ ns) (map (signed wideLimit) (signatures ms))) (singleMethods ms) l (named w m (g .0)) (g .1) (all-named w xs (g .2)) (omega arith) h
+      (one _ (single e) (sing-put e empty 0 w l (g .3))) (sing-methods ms (sign m xs ∷ ns) w l (omega arith) (omega (arith, small w m l (named w m (g .0)), g .1), h) (g .4))

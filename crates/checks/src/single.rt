@@ -1,22 +1,25 @@
-// That no list of a script names one thing twice.
+// That no list of a script names one thing twice. What a list of fields or methods has is told by its signature, a name and a number of parameters;
+// a field has no parameters.
 ghost use mathlib.Core.Path.{_≡_};
 ghost use Prim.Native.Nat.{_≤_};
-ghost use Rattle.checks.specs.Single.{fresh as freshIn, apart as areApart, own as ownOf, noted as notedBy, Walked};
+ghost use Rattle.words.specs.Wide.{wideSigned};
+ghost use Rattle.layout.specs.LastThree.{fresh as freshIn};
+ghost use Rattle.checks.specs.Single.{apart as areApart, own as ownOf, noted as notedBy, Walked};
 ghost use Rattle.checks.specs.SingleLines.{LinesSingle, Single};
 use crate::tree;
 use words::wide;
 
-// Whether `x` is none of the last three names in `names`.
-fn fresh(names: u64, x: u64) -> bool
-    ensures { λ r. ⌜ r ≡ freshIn names x ⌝ }
+// Whether `x` is none of the three signatures in `kept`.
+fn fresh(kept: u64, x: u64) -> bool
+    ensures { λ r. ⌜ r ≡ freshIn wideSigned kept x ⌝ }
 {
-    if names % wide::LIMIT == x {
+    if x == kept % wide::SIGNED {
         return false;
     }
-    if names / wide::LIMIT % wide::LIMIT == x {
+    if x == kept / wide::SIGNED % wide::SIGNED {
         return false;
     }
-    if names / wide::THIRD % wide::LIMIT == x {
+    if x == kept / wide::SIGNED / wide::SIGNED % wide::SIGNED {
         return false;
     }
     true
@@ -44,9 +47,9 @@ fn apart(x: u64, y: u64, z: u64) -> bool
     true
 }
 
-// Whether the names that the word `h` lists differ, and its own is none of those in `names`.
-fn own(h: u64, names: u64) -> bool
-    ensures { λ r. ⌜ r ≡ ownOf h names ⌝ }
+// Whether the names that the word `h` lists differ, and its own signature is none of those in `kept`.
+fn own(h: u64, kept: u64) -> bool
+    ensures { λ r. ⌜ r ≡ ownOf h kept ⌝ }
 {
     let k = h % wide::KINDS;
     let p = h / wide::KINDS;
@@ -57,9 +60,9 @@ fn own(h: u64, names: u64) -> bool
             }
             true
         }
-        128 => fresh(names, p % wide::LIMIT),
+        128 => fresh(kept, p % wide::SIGNED),
         192 => {
-            if fresh(names, p % wide::LIMIT) {
+            if fresh(kept, p % wide::SIGNED) {
                 return apart(
                     p / wide::PARAMS % wide::LIMIT,
                     p / wide::PARAMS / wide::LIMIT % wide::LIMIT,
@@ -72,20 +75,21 @@ fn own(h: u64, names: u64) -> bool
     }
 }
 
-// The names, with that of the header `h`.
-fn noted(h: u64, names: u64) -> u64
-    ensures { λ r. ⌜ r ≡ notedBy h names ⌝ }
+// The signatures, with that of the header `h`.
+fn noted(h: u64, kept: u64) -> u64
+    ensures { λ r. ⌜ r ≡ notedBy h kept ⌝ }
 {
     if h % wide::KINDS < 128 {
-        return names;
+        return kept;
     }
-    h / wide::KINDS % wide::LIMIT + wide::LIMIT * (names % wide::NAMES)
+    h / wide::KINDS % wide::SIGNED + wide::SIGNED * (kept % wide::THREE_SIGNED)
 }
 
-// The end of the `n` trees at `at`, or 8192 where a list in them names one thing twice. `names` are those of the headers before them.
-fn walk(s: &[u64; 4096], words: usize, at: usize, n: usize, names: u64) -> usize
+// The end of the `n` trees at `at`, or 8192 where a list in them names one thing twice. `kept` has the signatures of the headers before
+// them.
+fn walk(s: &[u64; 4096], words: usize, at: usize, n: usize, kept: u64) -> usize
     requires { ⌜ (words ≤ 4096) × (at ≤ 8192) ⌝ }
-    ensures { λ r. ⌜ Walked (now (s .entry)) words at n names r ⌝ }
+    ensures { λ r. ⌜ Walked (now (s .entry)) words at n kept r ⌝ }
     ensures { λ r. ⌜ (at ≤ r) × (r ≤ 8192) ⌝ }
 {
     if n == 0 {
@@ -95,10 +99,10 @@ fn walk(s: &[u64; 4096], words: usize, at: usize, n: usize, names: u64) -> usize
         return 8192;
     }
     let h = s[at];
-    if own(h, names) {
+    if own(h, kept) {
         let m = walk(s, words, at + 1, tree::outer(h), 0);
         let e = walk(s, words, m, tree::inner(h), 0);
-        return walk(s, words, e, n - 1, noted(h, names));
+        return walk(s, words, e, n - 1, noted(h, kept));
     }
     8192
 }

@@ -6,9 +6,9 @@ use mathlib.Core.List.{List, [], _∷_}
 use Prim.Native.Nat.{ℕ, _+_, _<_}
 use native.Mathlib.Omega.{arith}
 use Rattle.atlite.specs.Base.{member, all, if_then_else_, any, distinctBy}
-use Rattle.atlite.specs.Term.{this, ·t, ·r, ·l, ·x, apply, Value, plain, resolve, send, Term, var, op, two, countTerms, initNames, methodNames, seen}
+use Rattle.atlite.specs.Term.{this, ·t, ·r, ·l, ·x, apply, Value, plain, resolve, send, Term, var, op, two, countTerms, initNames, signatures, seen}
 use Rattle.atlite.specs.Expansion.{functionWith, resolvingWith}
-use Rattle.atlite.specs.Valid.{isName, isVariable, namesWithin, parameters, sendable, WellFormed}
+use Rattle.atlite.specs.Valid.{isName, isVariable, fewDistinct, fieldsNamed, methodsNamed, parameters, sendable, WellFormed}
 use borrow.Author.Tests.{lt-ltb}
 use Rattle.invariant.specs.Terms.{put, sub-skip}
 
@@ -21,16 +21,16 @@ pub apply-name : (w : ℕ) → isName w apply ≡ true
 unfolding isName
 apply-name w = lt-ltb 7 (8 + w) (omega arith)
 
-pub one-name : (w : ℕ) → namesWithin 4 w (apply ∷ []) ≡ true
-unfolding namesWithin distinctBy any all
-one-name w = rw (apply-name w)
+pub one-method : (w k : ℕ) → methodsNamed w ((apply, k) ∷ []) ≡ true
+unfolding fewDistinct distinctBy any all
+one-method w k = rw (apply-name w)
 
-pub no-name : (w : ℕ) → namesWithin 4 w [] ≡ true
-unfolding namesWithin distinctBy all
-no-name w = refl
+pub no-field : (w : ℕ) → fieldsNamed w [] ≡ true
+unfolding fewDistinct distinctBy all
+no-field w = refl
 
 pub one-parameter : (w x : ℕ) → isVariable w x ≡ true → parameters w (x ∷ []) ≡ true
-unfolding parameters distinctBy any all
+unfolding fewDistinct distinctBy any all
 one-parameter w x h = rw h
 
 pub apply-sendable : (w : ℕ) → sendable w (plain apply) 1 ≡ true
@@ -41,11 +41,11 @@ module _ (w : ℕ) (P : Value → Type 0) where
   -- what stands for `this` around a function is bound as .t, and the body is an object's method
   pub function-wf : (zs : List ℕ) (z : Term) (x : ℕ) (e : Term) → isVariable w x ≡ true → WellFormed z w P zs
       → WellFormed e w P (x ∷ this ∷ ·t ∷ zs) → WellFormed (functionWith z x e) w P zs
-  unfolding functionWith seen initNames methodNames any if_then_else_
+  unfolding functionWith seen initNames signatures any if_then_else_
   function-wf zs z x e hx hz h =
       let vs = x ∷ this ∷ ·t ∷ zs in
       let u : member ·t vs ≡ true = sub-skip x (this ∷ ·t ∷ zs) ·t refl in
-      (hidden w ·t (omega arith) (omega arith), hz, (no-name w, one-name w, tt, (one-parameter w x hx, put e w P this (var ·t) vs vs u (λ z _ k. k) h, tt)))
+      (hidden w ·t (omega arith) (omega arith), hz, (no-field w, one-method w 1, tt, (one-parameter w x hx, put e w P this (var ·t) vs vs u (λ z _ k. k) h, tt)))
 
   pub resolving-wf : (zs : List ℕ) (z e d : Term) → WellFormed z w P (·r ∷ zs) → WellFormed e w P zs → WellFormed d w P (·l ∷ ·r ∷ zs)
       → WellFormed (resolvingWith z e d) w P zs

@@ -5,8 +5,8 @@ use mathlib.Core.List.{List, [], _∷_, _++_}
 use Prim.Native.Nat.{ℕ}
 use lib.Dec.{eqb}
 use Rattle.atlite.specs.Base.{all}
-use Rattle.atlite.specs.Term.{this, Value, Kind, object, isolate, actor, Term, val, var, op, letIn, future, literal, Terms, nil, cons, Inits, noField, field, Methods, noMethod, method, countTerms, initNames, methodNames, seen}
-use Rattle.atlite.specs.Valid.{isVariable, operable, namesWithin, parameters, All, Held, WellFormed, WellFormedAll, WellFormedInits, WellFormedMethods}
+use Rattle.atlite.specs.Term.{this, Value, Kind, object, isolate, actor, Term, val, var, op, letIn, future, literal, Terms, nil, cons, Inits, noField, field, Methods, noMethod, method, countTerms, initNames, signatures, seen}
+use Rattle.atlite.specs.Valid.{isVariable, operable, fieldsNamed, methodsNamed, parameters, All, Held, WellFormed, WellFormedAll, WellFormedInits, WellFormedMethods}
 use Rattle.atlite.specs.ValidTest.{held, wellFormed, wellFormedAll, wellFormedInits, wellFormedMethods}
 use Rattle.atlite.specs.Facts.{and₂, and₃, and₄, both₂, both₃, both₄}
 use Rattle.invariant.specs.Terms.{widerInits, widerMethods}
@@ -38,7 +38,7 @@ mutual
   wf-to (future x y e) w p xs h = let r = and₂ (isVariable w x && isVariable w y && not (eqb x y)) (wellFormed w p (x ∷ y ∷ xs) e) h in (r .0, wf-to e w p (x ∷ y ∷ xs) (r .1))
   wf-to (literal k fs ms) w p xs h =
       let ys = this ∷ seen k xs in
-      let r = and₄ (namesWithin 4 w (initNames fs)) (namesWithin 4 w (methodNames ms)) (wellFormedInits w (held k p) ys fs) (wellFormedMethods w (held k p) ys ms) h in (
+      let r = and₄ (fieldsNamed w (initNames fs)) (methodsNamed w (signatures ms)) (wellFormedInits w (held k p) ys fs) (wellFormedMethods w (held k p) ys ms) h in (
         r .0,
         r .1,
         widerInits fs w (Is (held k p)) (Held k (Is p)) ys ys (held-to k p) (λ z i. i) (inits-to fs w (held k p) ys (r .2)),

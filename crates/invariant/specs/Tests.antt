@@ -10,9 +10,9 @@ use native.Mathlib.Omega.{arith}
 use lib.ListN.{length, getElem?}
 use lib.Dec.{eqb, leb, ltb}
 use Rattle.atlite.specs.Base.{all}
-use Rattle.atlite.specs.Term.{this, made, copied, Value, null, num, ref, object, future, field, methodNames}
+use Rattle.atlite.specs.Term.{this, made, copied, Value, null, num, ref, object, future, field, signatures}
 use Rattle.atlite.specs.State.{Message, message, Field, Tag, O, I, Entity, resolver, Actor, State, entityAt, isFuture, sameValue, isIsolate, fieldNames}
-use Rattle.atlite.specs.Valid.{sendable, namesWithin, wordsHold, Each, HeldBy, FieldsHeld, Waits, OwnValue, Arrived, IsEntity, IsActor, MayHold, IsState}
+use Rattle.atlite.specs.Valid.{sendable, fieldsNamed, methodsNamed, wordsHold, Each, HeldBy, FieldsHeld, Waits, OwnValue, Arrived, IsEntity, IsActor, MayHold, IsState}
 use Rattle.atlite.specs.ValidTest.{wellFormed, wellFormedMethods, visible, holdable, fieldsHold, ownReference, arrived, waits, heldBy, noMessage, entityHolds, entitiesHold, actorHolds, actorsHold, isState}
 use Rattle.atlite.specs.Facts.{eqb-same, none-some, and₂, and₃, and₄, both₂, both₃, both₄, and₅}
 use Rattle.atlite.specs.Laws.{same-value, value-same}
@@ -105,7 +105,7 @@ module _ (σ : State) (a : ℕ) where
   entity-to : (n : ℕ) (o : Entity) → entityHolds σ a n o ≡ true → IsEntity w (Is p) (isFuture σ) a n o
   unfolding entityHolds
   entity-to n (St.object t F M) h =
-      let r = and₄ (namesWithin 4 w (fieldNames F)) (fieldsHold p F) (namesWithin 4 w (methodNames M)) (wellFormedMethods w (heldBy t p) (this ∷ []) M) h in
+      let r = and₄ (fieldsNamed w (fieldNames F)) (fieldsHold p F) (methodsNamed w (signatures M)) (wellFormedMethods w (heldBy t p) (this ∷ []) M) h in
       (r .0, fields-to F (r .1), r .2, widerMethods M w (Is (heldBy t p)) (HeldBy t (Is p)) (this ∷ []) (this ∷ []) (by-to t) (λ z i. i) (methods-to M w (heldBy t p) (this ∷ []) (r .3)))
   entity-to n (St.future none q) h = all-is (waits σ a n) (Waits w (Is p) (ref a made n)) (waits-to n) q h
   entity-to n (St.future (some v) q) h = let r = and₃ (p v) (not (isFuture σ v)) (noMessage q) h in (r .0, not-to (isFuture σ v) (r .1), no-message-to q (r .2))

@@ -8,11 +8,12 @@ use native.Mathlib.Omega.{arith}
 use borrow.Author.Tests.{ltb-true, leb-true, eqb-true}
 use lib.ListN.{length}
 use lib.Dec.{eqb, leb, ltb}
-use Rattle.atlite.specs.Base.{member, distinct, all, if_then_else_, any}
-use Rattle.atlite.specs.Term.{this, apply, firstWord, Value, null, num, ref, Name, plain, twoWay, resolve, register, Shape, exactly, onField, calling, sending, shape, Kind, Term, val, var, op, letIn, future, literal, Terms, nil, cons, Inits, noField, Methods, noMethod, method, countTerms, initNames, methodNames, seen, top}
-use Rattle.atlite.specs.Valid.{isName, isVariable, sendable, callable, shapely, operable, unreferring, namesWithin, parameters}
+use Rattle.atlite.specs.Base.{member, all, if_then_else_, any}
+use Rattle.atlite.specs.Term.{this, apply, firstWord, Value, null, num, ref, Name, plain, twoWay, resolve, register, Shape, exactly, onField, calling, sending, shape, Kind, Term, val, var, op, letIn, future, literal, Terms, nil, cons, Inits, noField, Methods, noMethod, method, countTerms, initNames, Signature, sameSignature, signatures, seen, top}
+use Rattle.atlite.specs.Valid.{isName, isVariable, sendable, callable, shapely, operable, unreferring, fewDistinct, fieldsNamed, methodsNamed, parameters}
 use Rattle.atlite.specs.ValidTest.{held, wellFormed, wellFormedAll, wellFormedInits, wellFormedMethods}
 use Rattle.atlite.specs.Facts.{and₂, and₃, and₄}
+use Rattle.atlite.specs.Laws.{few-are}
 use Rattle.layout.specs.Terms.{countInits, countMethods}
 use Rattle.layout.specs.PackLaws.{NameFits, Each, each-append}
 use Rattle.layout.specs.TermLaws.{ValueFits, NameOk, ShapeFits, Fits, FitsAll, FitsInits, FitsMethods}
@@ -102,29 +103,34 @@ mutual
   count-inits (Inits.field f e fs) = ap suc (count-inits fs)
 
 mutual
-  unfolding countMethods methodNames
+  unfolding countMethods signatures
 
-  pub count-methods : (ms : Methods) → countMethods ms ≡ length (methodNames ms)
+  pub count-methods : (ms : Methods) → countMethods ms ≡ length (signatures ms)
   count-methods noMethod = refl
   count-methods (method m xs e ms) = ap suc (count-methods ms)
 
-pub within-fits : (w : ℕ) → w ≤ 64 → (k : ℕ) (xs : List ℕ) → namesWithin k w xs ≡ true → (length xs ≤ k) × Each NameFits xs
-unfolding namesWithin
-within-fits w l k xs h =
-    let r = and₃ (leb (length xs) k) (distinct xs) (all (isName w) xs) h in
-    (leb-true (length xs) k (r .0), each-all NameFits (isName w) (name-fits w l) xs (r .2))
+-- few names, signatures or parameters fit, one by one
+abbrev pub SignatureFits : Signature → Type 0
+SignatureFits s = NameFits (s .0)
 
-pub parameters-fit : (w : ℕ) → w ≤ 64 → (xs : List ℕ) → parameters w xs ≡ true → (length xs ≤ 3) × Each NameFits xs
-unfolding parameters
-parameters-fit w l xs h =
-    let r = and₃ (leb (length xs) 3) (distinct xs) (all (isVariable w) xs) h in
-    (leb-true (length xs) 3 (r .0), each-all NameFits (isVariable w) (variable-fits w l) xs (r .2))
+few-fit : {X : Type 0} (k : ℕ) (e : X → X → Bool) (p : X → Bool) (Q : X → Type 0) → ((x : X) → p x ≡ true → Q x) → (xs : List X) → fewDistinct k e p xs ≡ true → (length xs ≤ k) × Each Q xs
+few-fit k e p Q f xs h = let r = few-are k e p xs h in (r .0, each-all Q p f xs (r .2))
+
+module _ (w : ℕ) (l : w ≤ 64) where
+  pub fields-named-fit : (xs : List ℕ) → fieldsNamed w xs ≡ true → (length xs ≤ 4) × Each NameFits xs
+  fields-named-fit = few-fit 4 eqb (isName w) NameFits (name-fits w l)
+
+  pub methods-named-fit : (ss : List Signature) → methodsNamed w ss ≡ true → (length ss ≤ 4) × Each SignatureFits ss
+  methods-named-fit = few-fit 4 sameSignature (λ s. isName w (s .0)) SignatureFits (λ s. name-fits w l (s .0))
+
+  pub parameters-fit : (xs : List ℕ) → parameters w xs ≡ true → (length xs ≤ 3) × Each NameFits xs
+  parameters-fit = few-fit 3 eqb (isVariable w) NameFits (variable-fits w l)
 
 abbrev pub Sound : (Value → Bool) → Type 0
 Sound p = (v : Value) → p v ≡ true → ValueFits v
 
 mutual
-  unfolding wellFormed Fits initNames methodNames
+  unfolding wellFormed Fits initNames signatures
 
   pub fits-term : (e : Term) (w : ℕ) (p : Value → Bool) (xs : List ℕ) → w ≤ 64 → Sound p → Known xs → wellFormed w p xs e ≡ true → Fits e
   fits-term (val v) w p xs l f k h = f v h
@@ -142,9 +148,9 @@ mutual
       (q, q′, fits-term e w p (x ∷ y ∷ xs) l f (q, (q′, k)) (r .3))
   fits-term (literal t fs ms) w p xs l f k h =
       let ys = this ∷ seen t xs in
-      let r = and₄ (namesWithin 4 w (initNames fs)) (namesWithin 4 w (methodNames ms)) (wellFormedInits w (held t p) ys fs) (wellFormedMethods w (held t p) ys ms) h in
-      let a = within-fits w l 4 (initNames fs) (r .0) in
-      let b = within-fits w l 4 (methodNames ms) (r .1) in
+      let r = and₄ (fieldsNamed w (initNames fs)) (methodsNamed w (signatures ms)) (wellFormedInits w (held t p) ys fs) (wellFormedMethods w (held t p) ys ms) h in
+      let a = fields-named-fit w l (initNames fs) (r .0) in
+      let b = methods-named-fit w l (signatures ms) (r .1) in
       let k′ : Known ys = (omega arith, known-seen t xs k) in (
         omega (arith, a .0, count-inits fs),
         omega (arith, b .0, count-methods ms),
@@ -162,7 +168,7 @@ mutual
   fits-inits (Inits.field g e fs) w p xs l f k n h =
       let r = and₂ (wellFormed w p xs e) (wellFormedInits w p xs fs) h in (n .0, fits-term e w p xs l f k (r .0), fits-inits fs w p xs l f k (n .1) (r .1))
 
-  pub fits-methods : (ms : Methods) (w : ℕ) (p : Value → Bool) (xs : List ℕ) → w ≤ 64 → Sound p → Known xs → Each NameFits (methodNames ms) → wellFormedMethods w p xs ms ≡ true → FitsMethods ms
+  pub fits-methods : (ms : Methods) (w : ℕ) (p : Value → Bool) (xs : List ℕ) → w ≤ 64 → Sound p → Known xs → Each SignatureFits (signatures ms) → wellFormedMethods w p xs ms ≡ true → FitsMethods ms
   fits-methods noMethod w p xs l f k n h = tt
   fits-methods (method m ys e ms) w p xs l f k n h =
       let r = and₃ (parameters w ys) (wellFormed w p (ys ++ xs) e) (wellFormedMethods w p xs ms) h in

@@ -19,6 +19,8 @@ pub mod TermLaws
 pub mod TermReads
 pub mod Values
 pub mod Fitting
+pub mod Signatures
+pub mod LastThree
 pub mod Slots
 pub mod Parts
 pub mod StateReads

@@ -1,5 +1,6 @@
 -- The premise of `two-lists` is met by lists that differ: from one loaded script, two lists of calls with the same moves, senders and
--- creators in which all four actors move, one of them with entries that are refused. Actor 2 compares and chooses. Assumes nothing.
+-- creators in which all four actors move, one of them with entries that are refused. Actor 2 compares and chooses, in one of
+-- its two methods of one name. Assumes nothing.
 use Prim.Native.Nat.{ℕ, zero, suc, _<_}
 use mathlib.Core.List.{List, [], _∷_}
 use mathlib.Core.Path.{_≡_, refl, sym, _∙_, subst₂}
@@ -31,7 +32,7 @@ unfoldable pub start : List ℕ
 start =
     loadCall
     (readCall
-    (bytes "(def a (actor (method go () 1)))\n(def b (actor (method go (k) (if (same k 1) 2 5))))\n(def c (actor (method go () 3)))\n(send a go)\n(send b go 1)\n(send c go)\n")
+    (bytes "(def a (actor (method go () 1)))\n(def b (actor (method go () 4) (method go (k) (if (same k 1) 2 5))))\n(def c (actor (method go () 3)))\n(send a go)\n(send b go 1)\n(send c go)\n")
     (replicate tableWords 0) .buffer)
     (replicate stateWords 0) .buffer
 

@@ -9,12 +9,13 @@ use mathlib.Core.List.{List, [], _∷_, _++_}
 use lib.ListN.{length, getD, set}
 use lib.Dec.{eqb, ltb}
 use Rattle.atlite.specs.Base.{member}
-use Rattle.atlite.specs.Term.{this, Value, Kind, Inits, noField, Methods, noMethod, method, methodNames, seen}
-use Rattle.atlite.specs.Valid.{isName, isVariable, namesWithin, parameters}
+use Rattle.atlite.specs.Term.{this, Value, Kind, Inits, noField, Methods, noMethod, method, signatures, seen}
+use Rattle.atlite.specs.Valid.{isName, isVariable, methodsNamed, parameters}
 use Rattle.atlite.specs.ValidTest.{held, wellFormed, wellFormedAll, wellFormedMethods}
-use Rattle.layout.specs.Numbers.{payload, nameLimit, noName, tagLimit, thirdPlace, pairLimit}
-use Rattle.layout.specs.Pack.{names}
+use Rattle.layout.specs.Numbers.{payload, nameLimit, noName, tagLimit, taggedLimit, thirdPlace, pairLimit}
 use Rattle.layout.specs.PackLaws.{Each}
+use Rattle.layout.specs.Signatures.{signed}
+use Rattle.layout.specs.LastThree.{kept}
 use Rattle.layout.specs.Terms.{kindNumber}
 use Rattle.layout.specs.Kinds.{rowIn}
 use Rattle.layout.specs.Parse.{Got, none, got, literalHead, headIn, headAt, fieldAt, methodAt, formed, parseTerms, parseInits, parseMethods}
@@ -27,7 +28,7 @@ endOf t (got a i) = cond (t a) i 4096
 
 -- the methods of an entity, which see their `this` alone
 unfoldable pub methodsHold : ℕ → (Value → Bool) → Methods → Bool
-methodsHold c p ms = namesWithin 4 c (methodNames ms) && wellFormedMethods c p (this ∷ []) ms
+methodsHold c p ms = methodsNamed c (signatures ms) && wellFormedMethods c p (this ∷ []) ms
 
 -- ---- scopes
 -- A list has for each word the level at which it is bound, the level being one more in each literal that hides what is around it: the
@@ -62,21 +63,22 @@ unfoldable pub Refers : Bool → ℕ → Bool → Type 0
 Refers refs h r = (t : Kind) → h / payload ≡ kindNumber t → (K : List ℕ) (a : ℕ) → holds r K a ≡ held t (holds refs K a)
 
 -- ---- headers
--- a name, before others with the names ns
-unfoldable pub fresh : ℕ → List ℕ → ℕ → Bool
-fresh c ns x = isName c x && not (member x ns)
+-- a name m with the signature x, behind others with the signatures ns
+unfoldable pub isNew : ℕ → List ℕ → ℕ → ℕ → Bool
+isNew c ns m x = isName c m && not (member x ns)
 
--- The names ns stand in the number N, and n more are to come, of four in all. A name is not 0, which is what an empty place has.
+-- The signatures ns stand in the number N, and n more are to come, of four in all. None is 0, which is what an empty place has.
 pub record Met (N n : ℕ) (ns : List ℕ) : Type 0 where
-  pub is : N ≡ names ns
+  pub is : N ≡ kept taggedLimit ns
   pub few : length ns + n ≤ 4
-  pub each : Each (λ x. (0 < x) × (x < noName)) ns
+  pub each : Each (λ x. x < taggedLimit) ns
 
-unfoldable pub Fresh : ℕ → ℕ → ℕ → Bool → Type 0
-Fresh c N x r = (n : ℕ) (ns : List ℕ) → 0 < n → Met N n ns → r ≡ fresh c ns x
+-- a field's signature is its name
+unfoldable pub fieldHead : ℕ → List ℕ → ℕ → Bool
+fieldHead c ns f = isNew c ns f f
 
 unfoldable pub FieldHeader : ℕ → ℕ → ℕ → Bool → Type 0
-FieldHeader c N h r = (n : ℕ) (ns : List ℕ) → 0 < n → Met N n ns → r ≡ within (fresh c ns) (fieldAt h)
+FieldHeader c N h r = (n : ℕ) (ns : List ℕ) → 0 < n → Met N n ns → r ≡ within (fieldHead c ns) (fieldAt h)
 
 -- the three places of a method's header
 unfoldable pub two : ℕ → ℕ → ℕ → Bool
@@ -88,8 +90,12 @@ third c x y z = isVariable c z && not (eqb x z) && not (eqb y z)
 unfoldable pub empty : ℕ → ℕ → Bool
 empty y z = eqb y noName && eqb z noName
 
+-- a method's signature as a number
+abbrev pub sign : ℕ → List ℕ → ℕ
+sign m xs = signed nameLimit (m, length xs)
+
 unfoldable pub methodHead : ℕ → List ℕ → ℕ × List ℕ → Bool
-methodHead c ns h = fresh c ns (h .0) && parameters c (h .1)
+methodHead c ns h = isNew c ns (h .0) (sign (h .0) (h .1)) && parameters c (h .1)
 
 unfoldable pub MethodHeader : ℕ → ℕ → ℕ → Bool → Type 0
 MethodHeader c N h r = (n : ℕ) (ns : List ℕ) → 0 < n → Met N n ns → r ≡ within (methodHead c ns) (methodAt h)
@@ -99,14 +105,14 @@ pub record Arguments (p r : ℕ) : Type 0 where
   pub is : r ≡ 1 + p / nameLimit / tagLimit
   pub few : r ≤ thirdPlace
 
--- ---- fields and methods behind others with the names ns
+-- ---- fields and methods behind others with the signatures ns
 unfoldable pub fieldsWell : ℕ → (Value → Bool) → List ℕ → List ℕ → Inits → Bool
 fieldsWell c p xs ns noField = true
-fieldsWell c p xs ns (Inits.field f e fs) = fresh c ns f && (wellFormed c p xs e && fieldsWell c p xs (f ∷ ns) fs)
+fieldsWell c p xs ns (Inits.field f e fs) = fieldHead c ns f && (wellFormed c p xs e && fieldsWell c p xs (f ∷ ns) fs)
 
 unfoldable pub methodsWell : ℕ → (Value → Bool) → List ℕ → List ℕ → Methods → Bool
 methodsWell c p xs ns noMethod = true
-methodsWell c p xs ns (method m ys e ms) = methodHead c ns (m, ys) && (wellFormed c p (ys ++ xs) e && methodsWell c p xs (m ∷ ns) ms)
+methodsWell c p xs ns (method m ys e ms) = methodHead c ns (m, ys) && (wellFormed c p (ys ++ xs) e && methodsWell c p xs (sign m ys ∷ ns) ms)
 
 -- ---- words
 -- where n terms end
@@ -141,7 +147,7 @@ pub record Counted (o : Bool) (n r : ℕ) : Type 0 where
   pub is : r ≡ cond o n 0
   pub few : r ≤ n
 
--- ---- ends: in a state of c words, where p may be held, in the scope of F at the level g and, of a literal's parts, behind the names in N
+-- ---- ends: in a state of c words, where p may be held, in the scope of F at the level g and, of a literal's parts, behind the signatures in N
 module _ (c : ℕ) (p : Value → Bool) (F : List ℕ) (g : ℕ) (w : List ℕ) where
   unfoldable pub TermEnds : ℕ → ℕ → Type 0
   TermEnds at r = (xs : List ℕ) → Scope F g xs → r ≡ endOf (wellFormed c p xs) (parse w at)

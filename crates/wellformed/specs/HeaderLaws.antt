@@ -1,6 +1,6 @@
 -- The laws of the functions that test headers: one for each way to return. Assumes nothing.
 use Prim.Native.Nat.{ℕ, _+_, _/_, _%_, _≤_, _<_}
-use mathlib.Core.Path.{_≡_, refl, sym, _∙_}
+use mathlib.Core.Path.{_≡_, refl, sym, ap, _∙_}
 use mathlib.Core.Bool.{Bool, true, false, _&&_, not, cond, and-true, and-false}
 use mathlib.Core.List.{List, [], _∷_}
 use mathlib.Core.Option.{Option, none, some}
@@ -8,29 +8,17 @@ use native.Mathlib.Omega.{arith}
 use borrow.Author.Needs.{needs}
 use borrow.Author.Tests.{lt-ltb, le-ltb, le-leb, lt-leb, eq-eqb, ne-eqb, ltb-false}
 use lib.Dec.{eqb, ltb, leb}
-use Rattle.atlite.specs.Base.{if_then_else_, member, all, any, distinctBy}
-use Rattle.atlite.specs.Valid.{isName, isVariable, parameters}
+use Rattle.atlite.specs.Base.{if_then_else_, all, any, distinctBy}
+use Rattle.atlite.specs.Valid.{isName, isVariable, fewDistinct, parameters}
 use Rattle.atlite.specs.Facts.{and₂}
 use Rattle.layout.specs.Numbers.{payload, fieldKind, methodUnit, nameLimit, noName, tagLimit, taggedLimit, secondPlace, thirdPlace, digitLimit}
 use Rattle.layout.specs.Parse.{fieldAt, placesIn, paramsAt, named, methodAt}
+use Rattle.layout.specs.ParseWords.{Holding, MethodIs, method-word}
+use Rattle.layout.specs.Signatures.{header-signed}
+use Rattle.layout.specs.LastThree.{fresh}
 use Rattle.wellformed.specs.Words.{within}
-use Rattle.wellformed.specs.WordLaws.{name-past}
-use Rattle.wellformed.specs.Ends.{fresh, Fresh, FieldHeader, two, third, empty, methodHead, MethodHeader}
-use Rattle.wellformed.specs.NameLaws.{name-below, variable-below}
-
--- ---- fields
-module _ (c h N : ℕ) where
-  pub field-other : (h / payload ≡ fieldKind → ⊥) → FieldHeader c N h false
-  unfolding FieldHeader fieldAt within
-  field-other k n ns z m = rw (ne-eqb (h / payload) fieldKind k)
-
-  pub field-name : (r : Bool) → c ≤ 64 → h / payload ≡ fieldKind → Fresh c N (h % payload) r → FieldHeader c N h r
-  unfolding FieldHeader Fresh fieldAt within fresh
-  field-name r l k i n ns z m = rw k (go (ltb (h % payload) noName) refl)
-    where
-      go : (b : Bool) → ltb (h % payload) noName ≡ b → r ≡ within (fresh c ns) (cond b (some (h % payload)) none)
-      go true e = i n ns z m
-      go false e = i n ns z m ∙ rw (name-past c l (h % payload) (ltb-false (h % payload) noName e))
+use Rattle.wellformed.specs.Ends.{isNew, Met, fieldHead, FieldHeader, two, third, empty, sign, methodHead, MethodHeader}
+use Rattle.wellformed.specs.NameLaws.{name-below, name-above, variable-below, met-fresh}
 
 -- ---- places
 module _ (c x y : ℕ) (o : Bool) (e : o ≡ isVariable c x) where
@@ -90,8 +78,6 @@ many-fields p l = rw (lt-leb (p % digitLimit) 4 l)
 
 pub ruleset place-laws = (needs, two-first, two-second, two-same, two-yes, third-not, third-first, third-second, third-yes, empty-yes, empty-second, empty-first, small-counts, many-fields)
 
-pub ruleset field-laws = (needs, field-other, field-name)
-
 -- ---- parameters
 module _ (c : ℕ) where
   variable-past : c ≤ 64 → (x : ℕ) → noName ≤ x → isVariable c x ≡ false
@@ -99,15 +85,15 @@ module _ (c : ℕ) where
   variable-past l x h = rw (lt-ltb 0 x (omega arith), le-ltb x (8 + c) (omega arith))
 
   no-parameter : parameters c [] ≡ true
-  unfolding parameters distinctBy all
+  unfolding fewDistinct distinctBy all
   no-parameter = refl
 
   one-parameter : (x : ℕ) → parameters c (x ∷ []) ≡ isVariable c x
-  unfolding parameters distinctBy any all
+  unfolding fewDistinct distinctBy any all
   one-parameter x = and-true (isVariable c x)
 
   two-parameters : (x y : ℕ) → parameters c (x ∷ y ∷ []) ≡ two c x y
-  unfolding parameters distinctBy any all two if_then_else_
+  unfolding fewDistinct distinctBy any all two if_then_else_
   two-parameters x y = go (isVariable c x) (isVariable c y) (eqb x y)
     where
       go : (a b e : Bool) → (not (if e then true else false) && true) && (a && (b && true)) ≡ a && b && not e
@@ -119,7 +105,7 @@ module _ (c : ℕ) where
       go false b false = refl
 
   three-parameters : (x y z : ℕ) → parameters c (x ∷ y ∷ z ∷ []) ≡ two c x y && third c x y z
-  unfolding parameters distinctBy any all two third if_then_else_
+  unfolding fewDistinct distinctBy any all two third if_then_else_
   three-parameters x y z = go (isVariable c x) (isVariable c y) (isVariable c z) (eqb x y) (eqb x z) (eqb y z)
     where
       go : (a b d e f g : Bool) → (not (if e then true else (if f then true else false)) && (not (if g then true else false) && true)) && (a && (b && (d && true)))
@@ -235,29 +221,87 @@ module _ (c h : ℕ) (l : c ≤ 64) where
 
 pub ruleset param-laws = (needs, params-none, params-one, params-two, params-three, params-full, params-not-one, params-not-two, params-not-three)
 
+-- ---- fields
+module _ (c h N : ℕ) where
+  pub field-other : (h / payload ≡ fieldKind → ⊥) → FieldHeader c N h false
+  unfolding FieldHeader fieldAt within
+  field-other k n ns z m = rw (ne-eqb (h / payload) fieldKind k)
+
+  module _ (o : Bool) (k : h / payload ≡ fieldKind) (e : o ≡ isName c (h % payload)) where
+    pub field-unnamed : o ≡ false → FieldHeader c N h false
+    unfolding FieldHeader fieldAt fieldHead isNew within
+    field-unnamed t n ns z m = rw k (sym (within-not (fieldHead c ns) (ltb (h % payload) noName) (some (h % payload)) (rw (sym e ∙ t))))
+
+    pub field-named : (r : Bool) → c ≤ 64 → o ≡ true → r ≡ fresh taggedLimit N (h % taggedLimit) → FieldHeader c N h r
+    unfolding FieldHeader fieldAt fieldHead isNew within
+    field-named r l t i n ns z m =
+        let f = h % payload in
+        let q : isName c f ≡ true = sym e ∙ t in
+        let b = name-below c f l q in
+        let x : h % taggedLimit ≡ f = omega arith in
+        rw (k, lt-ltb f noName b, q) (i ∙ ap (fresh taggedLimit N) x ∙ met-fresh N n f ns (omega (arith, name-above c f q)) z m)
+
+pub ruleset field-laws = (needs, field-other, field-unnamed, field-named)
+
 -- ---- methods
 module _ (c h N : ℕ) where
-  head-within : (ns : List ℕ) (m : ℕ) (o : Option (List ℕ)) → within (methodHead c ns) (named m o) ≡ fresh c ns m && within (parameters c) o
+  -- the header's signature is its lowest digits
+  signed-word : Holding (λ q. sign (q .0) (q .1) ≡ h % taggedLimit) (methodAt h)
+  signed-word = go (methodAt h) (method-word h)
+    where
+      go : (o : Option (ℕ × List ℕ)) → Holding (λ q. MethodIs (q .0) (q .1) h) o → Holding (λ q. sign (q .0) (q .1) ≡ h % taggedLimit) o
+      go none i = tt
+      go (some q) i = sym (ap (λ k. k % taggedLimit) (sym (i .3)) ∙ header-signed (q .0) (q .1) (omega (arith, i .0)) (i .2))
+
+  -- so the header is tested by them
+  abbrev tested : List ℕ → ℕ × List ℕ → Bool
+  tested ns q = isNew c ns (q .0) (h % taggedLimit) && parameters c (q .1)
+
+  head-signed : (ns : List ℕ) → within (methodHead c ns) (methodAt h) ≡ within (tested ns) (methodAt h)
   unfolding within methodHead
-  head-within ns m none = sym (and-false (fresh c ns m))
-  head-within ns m (some xs) = refl
+  head-signed ns = go (methodAt h) signed-word
+    where
+      go : (o : Option (ℕ × List ℕ)) → Holding (λ q. sign (q .0) (q .1) ≡ h % taggedLimit) o → within (methodHead c ns) o ≡ within (tested ns) o
+      go none i = refl
+      go (some q) i = ap (λ x. isNew c ns (q .0) x && parameters c (q .1)) i
+
+  named-within : (ns : List ℕ) (m : ℕ) (o : Option (List ℕ)) → within (tested ns) (named m o) ≡ isNew c ns m (h % taggedLimit) && within (parameters c) o
+  unfolding within
+  named-within ns m none = sym (and-false (isNew c ns m (h % taggedLimit)))
+  named-within ns m (some xs) = refl
 
   pub method-other : (h / methodUnit ≡ 3 → ⊥) → MethodHeader c N h false
   unfolding MethodHeader methodAt within
   method-other k n ns z m = rw (ne-eqb (h / methodUnit) 3 k)
 
-  module _ (o : Bool) (k : h / methodUnit ≡ 3) (e : Fresh c N (h % nameLimit) o) where
-    pub method-taken : o ≡ false → MethodHeader c N h false
-    unfolding MethodHeader Fresh methodAt
-    method-taken t n ns z m =
-        let i : fresh c ns (h % nameLimit) ≡ false = sym (e n ns z m) ∙ t in
-        rw k (sym (within-not (methodHead c ns) (ltb (h % nameLimit) noName) (named (h % nameLimit) (paramsAt h)) (head-within ns (h % nameLimit) (paramsAt h) ∙ rw i)))
+  module _ (o : Bool) (k : h / methodUnit ≡ 3) (e : o ≡ isName c (h % nameLimit)) where
+    -- whatever the parameters are, the signature is not new
+    refuses : (ns : List ℕ) → isNew c ns (h % nameLimit) (h % taggedLimit) ≡ false → false ≡ within (methodHead c ns) (methodAt h)
+    unfolding methodAt
+    refuses ns i =
+        sym (head-signed ns ∙ rw k (within-not (tested ns) (ltb (h % nameLimit) noName) (named (h % nameLimit) (paramsAt h)) (named-within ns (h % nameLimit) (paramsAt h) ∙ rw i)))
 
-    pub method-named : (r : Bool) → c ≤ 64 → o ≡ true → r ≡ within (parameters c) (paramsAt h) → MethodHeader c N h r
-    unfolding MethodHeader Fresh methodAt fresh
-    method-named r l t i n ns z m =
-        let j : fresh c ns (h % nameLimit) ≡ true = sym (e n ns z m) ∙ t in
-        let b = name-below c (h % nameLimit) l (and₂ (isName c (h % nameLimit)) (not (member (h % nameLimit) ns)) j .0) in
-        rw (k, lt-ltb (h % nameLimit) noName b) (i ∙ sym (head-within ns (h % nameLimit) (paramsAt h) ∙ rw j))
+    pub method-unnamed : o ≡ false → MethodHeader c N h false
+    unfolding MethodHeader isNew
+    method-unnamed t n ns z m = refuses ns (rw (sym e ∙ t))
 
-pub ruleset method-laws = (needs, method-other, method-taken, method-named)
+    module _ (l : c ≤ 64) (t : o ≡ true) (f : Bool) (j : f ≡ fresh taggedLimit N (h % taggedLimit)) where
+      new : (n : ℕ) (ns : List ℕ) → 0 < n → Met N n ns → isNew c ns (h % nameLimit) (h % taggedLimit) ≡ f
+      unfolding isNew
+      new n ns z m =
+          let q : isName c (h % nameLimit) ≡ true = sym e ∙ t in
+          let a = name-above c (h % nameLimit) q in
+          let b : 0 < h % taggedLimit = omega arith in
+          rw q (sym (met-fresh N n (h % taggedLimit) ns b z m) ∙ sym j)
+
+      pub method-taken : f ≡ false → MethodHeader c N h false
+      unfolding MethodHeader
+      method-taken u n ns z m = refuses ns (new n ns z m ∙ u)
+
+      pub method-named : (r : Bool) → f ≡ true → r ≡ within (parameters c) (paramsAt h) → MethodHeader c N h r
+      unfolding MethodHeader methodAt
+      method-named r u i n ns z m =
+          let b = name-below c (h % nameLimit) l (sym e ∙ t) in
+          i ∙ sym (head-signed ns ∙ rw (k, lt-ltb (h % nameLimit) noName b) (named-within ns (h % nameLimit) (paramsAt h) ∙ rw (new n ns z m ∙ u)))
+
+pub ruleset method-laws = (needs, method-other, method-unnamed, method-taken, method-named)

@@ -10,16 +10,16 @@ use native.Mathlib.Numerals.{sub-one}
 use native.Mathlib.Omega.{arith}
 use borrow.Author.Needs.{needs}
 use lib.ListN.{length, getD}
-use Rattle.atlite.specs.Facts.{and₂}
 use Rattle.atlite.specs.Term.{Value, Term, cons, Inits, Methods, method}
-use Rattle.atlite.specs.Valid.{parameters}
 use Rattle.atlite.specs.ValidTest.{wellFormed, wellFormedAll}
-use Rattle.layout.specs.Numbers.{payload, nameLimit, taggedLimit, placesLimit, bodiesSize}
+use Rattle.layout.specs.Numbers.{payload, taggedLimit, bodiesSize}
 use Rattle.layout.specs.Parse.{pair, headAt, fieldAt, methodAt, termsBy, initsBy, methodsBy, parseTerms, parseInits, parseMethods}
-use Rattle.layout.specs.ParseWords.{holding, field-word}
+use Rattle.layout.specs.ParseWords.{holding, field-word, method-word}
 use Rattle.layout.specs.ParseLaws.{parse, parse-step}
+use Rattle.layout.specs.Signatures.{header-signed}
+use Rattle.layout.specs.LastThree.{noted}
 use Rattle.checks.specs.Bound.{Kept}
-use Rattle.wellformed.specs.Ends.{endOf, Scope, bound, fresh, Met, FieldHeader, methodHead, MethodHeader, fieldsWell, methodsWell, termsEnd, Leaf, Closed, Operands, TermEnds, Left, FieldsEnd, MethodsEnd, FormEnds}
+use Rattle.wellformed.specs.Ends.{endOf, Scope, bound, Met, fieldHead, sign, FieldHeader, methodHead, MethodHeader, fieldsWell, methodsWell, termsEnd, Leaf, Closed, Operands, TermEnds, Left, FieldsEnd, MethodsEnd, FormEnds}
 use Rattle.wellformed.specs.ScopeLaws.{method-bound}
 use Rattle.wellformed.specs.NameLaws.{met-noted}
 use Rattle.wellformed.specs.EndLaws.{ends-pair, headed, headed-none, terms-nowhere, fields-nowhere, methods-nowhere, parse-past, fields-past, methods-past}
@@ -117,18 +117,18 @@ module _ (c : ℕ) (p : Value → Bool) (F : List ℕ) (g : ℕ) (w : List ℕ) 
           go : (n : ℕ) → (n ≡ 0 → ⊥) → Met N n ns → 4096 ≡ endOf (fieldsWell c p xs ns) (parseInits (length w) w n at)
           go zero z t = absurd (z refl)
           go (suc n) z t =
-              headed-none Inits.field (fresh c ns) (fieldsWell c p xs ns) (parse w (at + 1)) (λ i. parseInits (length w) w n i) (fieldAt (getD w at 0)) (sym (e (suc n) ns (omega arith) t) ∙ u) (λ f d fs k. rw k)
+              headed-none Inits.field (fieldHead c ns) (fieldsWell c p xs ns) (parse w (at + 1)) (λ i. parseInits (length w) w n i) (fieldAt (getD w at 0)) (sym (e (suc n) ns (omega arith) t) ∙ u) (λ f d fs k. rw k)
 
-      pub fields-more : (a M r : ℕ) (G : List ℕ) → length w ≤ bodiesSize → c ≤ 64 → o ≡ true → TermEnds c p F g w (at + 1) a → Kept F G → M ≡ getD w at 0 % nameLimit + nameLimit * (N % placesLimit) → FieldsEnd c p G g w M (n - 1) a r → FieldsEnd c p F g w N n at r
+      pub fields-more : (a M r : ℕ) (G : List ℕ) → length w ≤ bodiesSize → c ≤ 64 → o ≡ true → TermEnds c p F g w (at + 1) a → Kept F G → M ≡ noted taggedLimit N (getD w at 0 % taggedLimit) → FieldsEnd c p G g w M (n - 1) a r → FieldsEnd c p F g w N n at r
       unfolding FieldsEnd FieldHeader TermEnds Kept initsBy fieldsWell
       fields-more a M r G l b u i v m j xs ns s t = go n z t j
         where
-          rest : (n : ℕ) → Met N (suc n) ns → FieldsEnd c p G g w M n a r → (f : ℕ) → fieldAt (getD w at 0) ≡ some f → fresh c ns f ≡ true
+          rest : (n : ℕ) → Met N (suc n) ns → FieldsEnd c p G g w M n a r → (f : ℕ) → fieldAt (getD w at 0) ≡ some f → fieldHead c ns f ≡ true
               → r ≡ endOf (fieldsWell c p xs ns) (pair (Inits.field f) (parse w (at + 1)) (λ i. parseInits (length w) w n i))
           rest n t j f d k =
               let q = holding _ (fieldAt (getD w at 0)) f (field-word (getD w at 0)) d in
-              let y : getD w at 0 % nameLimit ≡ f = omega (arith, q) in
-              let x : Met M n (f ∷ ns) = rw (m ∙ ap (λ k. k + nameLimit * (N % placesLimit)) y) (met-noted c N n f ns b k t) in
+              let y : getD w at 0 % taggedLimit ≡ f = omega (arith, q) in
+              let x : Met M n (f ∷ ns) = rw (m ∙ ap (noted taggedLimit N) y) (met-noted N n f ns (omega (arith, q .0)) t) in
               j xs (f ∷ ns) (rw v s) x
               ∙ rw (i xs s)
               (ends-pair (Inits.field f) (fieldsWell c p xs ns) (wellFormed c p xs) (fieldsWell c p xs (f ∷ ns)) (parse w (at + 1)) (λ i. parseInits (length w) w n i)
@@ -137,7 +137,7 @@ module _ (c : ℕ) (p : Value → Bool) (F : List ℕ) (g : ℕ) (w : List ℕ) 
           go : (n : ℕ) → (n ≡ 0 → ⊥) → Met N n ns → FieldsEnd c p G g w M (n - 1) a r → r ≡ endOf (fieldsWell c p xs ns) (parseInits (length w) w n at)
           go zero z t j = absurd (z refl)
           go (suc n) z t j =
-              headed Inits.field (fresh c ns) (fieldsWell c p xs ns) (parse w (at + 1)) (λ i. parseInits (length w) w n i) (fieldAt (getD w at 0)) r (sym (e (suc n) ns (omega arith) t) ∙ u)
+              headed Inits.field (fieldHead c ns) (fieldsWell c p xs ns) (parse w (at + 1)) (λ i. parseInits (length w) w n i) (fieldAt (getD w at 0)) r (sym (e (suc n) ns (omega arith) t) ∙ u)
               (λ f d k. rest n t (rw sub-one at j) f d k)
 
 pub ruleset fields-laws = (needs, fields-none, fields-end, fields-not, fields-more)
@@ -171,7 +171,7 @@ module _ (c : ℕ) (p : Value → Bool) (F : List ℕ) (g : ℕ) (w : List ℕ) 
           go (suc n) z t =
               headed-none headed-method (methodHead c ns) (methodsWell c p xs ns) (parse w (at + 1)) (λ i. parseMethods (length w) w n i) (methodAt (getD w at 0)) (sym (e (suc n) ns (omega arith) t) ∙ u) (λ q d ms k. rw k)
 
-      pub methods-more : (a M r : ℕ) (G : List ℕ) → length w ≤ bodiesSize → c ≤ 64 → o ≡ true → TermEnds c p (bound F g (getD w at 0 / taggedLimit)) g w (at + 1) a → Kept F G → M ≡ getD w at 0 % nameLimit + nameLimit * (N % placesLimit)
+      pub methods-more : (a M r : ℕ) (G : List ℕ) → length w ≤ bodiesSize → c ≤ 64 → o ≡ true → TermEnds c p (bound F g (getD w at 0 / taggedLimit)) g w (at + 1) a → Kept F G → M ≡ noted taggedLimit N (getD w at 0 % taggedLimit)
           → MethodsEnd c p G g w M (n - 1) a r → MethodsEnd c p F g w N n at r
       unfolding MethodsEnd MethodHeader TermEnds Kept methodsBy methodsWell methodHead
       methods-more a M r G l b u i v m j xs ns s t = go n z t j
@@ -180,12 +180,14 @@ module _ (c : ℕ) (p : Value → Bool) (F : List ℕ) (g : ℕ) (w : List ℕ) 
               → r ≡ endOf (methodsWell c p xs ns) (pair (headed-method q) (parse w (at + 1)) (λ i. parseMethods (length w) w n i))
           rest n t j q f k =
               let d = holding _ (methodAt (getD w at 0)) q (method-bound F g xs s (getD w at 0)) f in
-              let y = and₂ (fresh c ns (q .0)) (parameters c (q .1)) k .0 in
-              let x : Met M n (q .0 ∷ ns) = rw (m ∙ ap (λ k. k + nameLimit * (N % placesLimit)) (sym (d .0))) (met-noted c N n (q .0) ns b y t) in
-              j xs (q .0 ∷ ns) (rw v s) x
+              let i₁ = holding _ (methodAt (getD w at 0)) q (method-word (getD w at 0)) f in
+              let y : sign (q .0) (q .1) < taggedLimit = omega (arith, i₁ .0, i₁ .2) in
+              let e₁ : getD w at 0 % taggedLimit ≡ sign (q .0) (q .1) = ap (λ k. k % taggedLimit) (sym (i₁ .3)) ∙ header-signed (q .0) (q .1) (omega (arith, i₁ .0)) (i₁ .2) in
+              let x : Met M n (sign (q .0) (q .1) ∷ ns) = rw (m ∙ ap (noted taggedLimit N) e₁) (met-noted N n (sign (q .0) (q .1)) ns y t) in
+              j xs (sign (q .0) (q .1) ∷ ns) (rw v s) x
               ∙ rw (i (q .1 ++ xs) (d .2))
-              (ends-pair (headed-method q) (methodsWell c p xs ns) (wellFormed c p (q .1 ++ xs)) (methodsWell c p xs (q .0 ∷ ns)) (parse w (at + 1)) (λ i. parseMethods (length w) w n i)
-              (methods-nowhere w (omega arith) (methodsWell c p xs (q .0 ∷ ns)) n) (λ d i ms m x y. rw k))
+              (ends-pair (headed-method q) (methodsWell c p xs ns) (wellFormed c p (q .1 ++ xs)) (methodsWell c p xs (sign (q .0) (q .1) ∷ ns)) (parse w (at + 1)) (λ i. parseMethods (length w) w n i)
+              (methods-nowhere w (omega arith) (methodsWell c p xs (sign (q .0) (q .1) ∷ ns)) n) (λ d i ms m x y. rw k))
 
           go : (n : ℕ) → (n ≡ 0 → ⊥) → Met N n ns → MethodsEnd c p G g w M (n - 1) a r → r ≡ endOf (methodsWell c p xs ns) (parseMethods (length w) w n at)
           go zero z t j = absurd (z refl)

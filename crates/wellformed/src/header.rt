@@ -1,63 +1,67 @@
 // Headers of fields and methods, and the counts in the words of calls and literals.
 //
-// The names of a literal's fields, or of its methods, are kept in one number, seven bits each, the last one lowest. There are at most
-// four, so that a name is compared with three.
+// What a literal's fields or methods are told by is their signature, with which their headers begin: a name, and of a method the number of its
+// parameters. Those of a list are kept in one number, nine bits each, the last one lowest. There are at most four, so that one is compared
+// with three.
 ghost use mathlib.Core.Path.{_≡_};
 ghost use mathlib.Core.Bool.{_&&_};
 ghost use Prim.Native.Nat.{_+_, _*_, _≤_, _<_, _/_, _%_};
 ghost use lib.Dec.{leb};
 ghost use Rattle.atlite.specs.Valid.{parameters};
-ghost use Rattle.layout.specs.Numbers.{nameLimit, placesLimit, digitLimit};
+ghost use Rattle.layout.specs.Numbers.{taggedLimit, digitLimit};
+ghost use Rattle.layout.specs.LastThree.{fresh, noted as notedIn};
 ghost use Rattle.layout.specs.Parse.{paramsAt};
 ghost use Rattle.wellformed.specs.Words.{within};
-ghost use Rattle.wellformed.specs.Ends.{Fresh, FieldHeader, two, third, empty, MethodHeader, Arguments};
+ghost use Rattle.wellformed.specs.Ends.{FieldHeader, two, third, empty, MethodHeader, Arguments};
 use crate::word;
 use layout::DIGIT;
 use layout::METHOD_UNIT;
 use layout::NAME_LIMIT;
 use layout::NO_NAME;
-use layout::PAIR_LIMIT;
 use layout::PAYLOAD;
-use layout::PLACES_LIMIT;
 use layout::SECOND_PLACE;
 use layout::TAGGED_LIMIT;
 use layout::THIRD_PLACE;
 
-// A name that is none of the last three in `names`.
-fn is_fresh(x: u32, names: u32, words: u32) -> bool
-    requires { ⌜ words ≤ 64 ⌝ }
-    ensures { λ r. ⌜ Fresh words names x r ⌝ }
+// Signatures are below the first, three of them in one number below the second.
+const SIGNED: u64 = TAGGED_LIMIT as u64;
+
+const THREE_SIGNED: u64 = SIGNED * SIGNED * SIGNED;
+
+// Whether the signature of the header `h` is none of the three in `kept`.
+fn is_fresh(h: u32, kept: u64) -> bool
+    ensures { λ r. ⌜ r ≡ fresh taggedLimit kept (h % taggedLimit) ⌝ }
 {
-    if word::is_name(x, words) {
-        if x == names % NAME_LIMIT {
-            return false;
-        }
-        if x == names / NAME_LIMIT % NAME_LIMIT {
-            return false;
-        }
-        if x == names / PAIR_LIMIT % NAME_LIMIT {
-            return false;
-        }
-        return true;
+    let x = (h % TAGGED_LIMIT) as u64;
+    if x == kept % SIGNED {
+        return false;
     }
-    false
+    if x == kept / SIGNED % SIGNED {
+        return false;
+    }
+    if x == kept / SIGNED / SIGNED % SIGNED {
+        return false;
+    }
+    true
 }
 
-// The names with one more.
-pub fn noted(names: u32, x: u32) -> u32
-    requires { ⌜ x < nameLimit ⌝ }
-    ensures { λ r. ⌜ r ≡ x + nameLimit * (names % placesLimit) ⌝ }
+// The signatures, with that of the header `h`.
+pub fn noted(h: u32, kept: u64) -> u64
+    ensures { λ r. ⌜ r ≡ notedIn taggedLimit kept (h % taggedLimit) ⌝ }
 {
-    x + NAME_LIMIT * (names % PLACES_LIMIT)
+    (h % TAGGED_LIMIT) as u64 + SIGNED * (kept % THREE_SIGNED)
 }
 
 // Whether the word `h` is the header of a field with a new name.
-pub fn field_header(h: u32, names: u32, words: u32) -> bool
+pub fn field_header(h: u32, kept: u64, words: u32) -> bool
     requires { ⌜ words ≤ 64 ⌝ }
-    ensures { λ r. ⌜ FieldHeader words names h r ⌝ }
+    ensures { λ r. ⌜ FieldHeader words kept h r ⌝ }
 {
     if h / PAYLOAD == 128 {
-        return is_fresh(h % PAYLOAD, names, words);
+        if word::is_name(h % PAYLOAD, words) {
+            return is_fresh(h, kept);
+        }
+        return false;
     }
     false
 }
@@ -145,14 +149,17 @@ fn has_parameters(h: u32, words: u32) -> bool
     }
 }
 
-// Whether the word `h` is the header of a method with a new name and with parameters.
-pub fn method_header(h: u32, names: u32, words: u32) -> bool
+// Whether the word `h` is the header of a method with a new signature and with parameters.
+pub fn method_header(h: u32, kept: u64, words: u32) -> bool
     requires { ⌜ words ≤ 64 ⌝ }
-    ensures { λ r. ⌜ MethodHeader words names h r ⌝ }
+    ensures { λ r. ⌜ MethodHeader words kept h r ⌝ }
 {
     if h / METHOD_UNIT == 3 {
-        if is_fresh(h % NAME_LIMIT, names, words) {
-            return has_parameters(h, words);
+        if word::is_name(h % NAME_LIMIT, words) {
+            if is_fresh(h, kept) {
+                return has_parameters(h, words);
+            }
+            return false;
         }
         return false;
     }

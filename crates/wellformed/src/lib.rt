@@ -80,7 +80,7 @@ pub fn expression(w: &[u32], kinds: &[u8; STATE_SLOTS], actor: u32, words: u32) 
 }
 
 // Where the `count` methods at `at` end, or 4096 where they are none that an entity may have: without `refs`, an isolate, whose methods
-// refer to nothing. So it is not answered that two methods may have one name, nor that a method may have a parameter twice.
+// refer to nothing. So it is not answered that two methods may have one name and equally many parameters, nor that a method may have a parameter twice.
 pub fn methods(
     w: &[u32],
     at: usize,

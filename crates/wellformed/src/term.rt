@@ -246,18 +246,18 @@ fn literal(
     FAIL
 }
 
-// The end of the `n` fields at `at`, behind others of the names in `names`.
+// The end of the `n` fields at `at`, behind others of the signatures in `kept`.
 fn fields_from(
     w: &[u32],
     at: usize,
     n: usize,
-    names: u32,
+    kept: u64,
     scope: &mut [u16; 128],
     kinds: &[u8; STATE_SLOTS],
     e: Context,
 ) -> usize
     requires { ⌜ (length (now w) ≤ bodiesSize) × (at ≤ 4096) × (e .words ≤ 64) × (e .level ≤ at + 1) × (n ≤ 8) ⌝ }
-    ensures { λ r. ⌜ FieldsEnd (e .words) (holds (e .refs) (now (kinds .entry)) (e .actor)) (now (scope .entry)) (e .level) (now (w .entry)) names n at r ⌝ }
+    ensures { λ r. ⌜ FieldsEnd (e .words) (holds (e .refs) (now (kinds .entry)) (e .actor)) (now (scope .entry)) (e .level) (now (w .entry)) kept n at r ⌝ }
     ensures { λ r. ⌜ Kept (now (scope .entry)) (now (scope .exit)) ⌝ }
     ensures { λ r. ⌜ (at ≤ r) × (r ≤ 4096) ⌝ }
 {
@@ -268,17 +268,9 @@ fn fields_from(
         return FAIL;
     }
     let h = w[at];
-    if header::field_header(h, names, e.words) {
+    if header::field_header(h, kept, e.words) {
         let a = term(w, at + 1, scope, kinds, e);
-        return fields_from(
-            w,
-            a,
-            n - 1,
-            header::noted(names, h % NAME_LIMIT),
-            scope,
-            kinds,
-            e,
-        );
+        return fields_from(w, a, n - 1, header::noted(h, kept), scope, kinds, e);
     }
     FAIL
 }
@@ -288,13 +280,13 @@ pub fn methods_from(
     w: &[u32],
     at: usize,
     n: usize,
-    names: u32,
+    kept: u64,
     scope: &mut [u16; 128],
     kinds: &[u8; STATE_SLOTS],
     e: Context,
 ) -> usize
     requires { ⌜ (length (now w) ≤ bodiesSize) × (at ≤ 4096) × (e .words ≤ 64) × (e .level ≤ at + 1) × (n ≤ 8) ⌝ }
-    ensures { λ r. ⌜ MethodsEnd (e .words) (holds (e .refs) (now (kinds .entry)) (e .actor)) (now (scope .entry)) (e .level) (now (w .entry)) names n at r ⌝ }
+    ensures { λ r. ⌜ MethodsEnd (e .words) (holds (e .refs) (now (kinds .entry)) (e .actor)) (now (scope .entry)) (e .level) (now (w .entry)) kept n at r ⌝ }
     ensures { λ r. ⌜ Kept (now (scope .entry)) (now (scope .exit)) ⌝ }
     ensures { λ r. ⌜ (at ≤ r) × (r ≤ 4096) ⌝ }
 {
@@ -305,17 +297,9 @@ pub fn methods_from(
         return FAIL;
     }
     let h = w[at];
-    if header::method_header(h, names, e.words) {
+    if header::method_header(h, kept, e.words) {
         let a = inside(w, at + 1, h / TAGGED_LIMIT, scope, kinds, e);
-        return methods_from(
-            w,
-            a,
-            n - 1,
-            header::noted(names, h % NAME_LIMIT),
-            scope,
-            kinds,
-            e,
-        );
+        return methods_from(w, a, n - 1, header::noted(h, kept), scope, kinds, e);
     }
     FAIL
 }

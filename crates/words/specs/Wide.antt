@@ -29,15 +29,19 @@ wideLimit = 4096
 abbrev pub pair : ℕ → ℕ → ℕ
 pair x y = x + wideLimit * y
 
--- where the third of three names stands, what three of them are below, and a method's parameters behind its name and their number
+-- where the third of three names stands, and what three of them are below
 abbrev pub wideThird : ℕ
 wideThird = wideLimit * wideLimit
 
 abbrev pub wideNames : ℕ
 wideNames = wideThird * wideLimit
 
+-- signatures are below it: a name, and behind it a number of parameters. Behind its signature a method has its parameters.
+abbrev pub wideSigned : ℕ
+wideSigned = wideLimit * 4
+
 abbrev pub wideParamsAt : ℕ
-wideParamsAt = wideLimit * 4
+wideParamsAt = wideSigned
 
 -- up to three parameters, an empty place 0
 unfoldable pub wideParams : List ℕ → ℕ
