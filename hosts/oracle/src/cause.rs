@@ -6,7 +6,7 @@ pub const TEXT_SIZE: u8 = 1;
 pub const GRAMMAR: u8 = 2;
 /// A variable has no binding, or one that a literal may not see.
 pub const UNBOUND: u8 = 3;
-/// A list names something twice.
+/// A list names something twice. Methods of one name are told apart by the number of their parameters.
 pub const TWICE: u8 = 4;
 /// Brackets, words or nodes of the script are too many.
 pub const SCRIPT_SIZE: u8 = 5;
@@ -22,7 +22,7 @@ pub const IDLE: u8 = 9;
 pub const NO_RECEIVER: u8 = 10;
 /// The entity belongs to another actor.
 pub const FOREIGN: u8 = 11;
-/// The entity has no such field or method, or is not of the kind that has any.
+/// The entity has no such field, no method of the name for so many arguments, or is not of the kind that has any.
 pub const NO_MEMBER: u8 = 12;
 /// The future has a value already.
 pub const RESOLVED: u8 = 13;

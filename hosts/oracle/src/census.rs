@@ -6,8 +6,8 @@ use std::fmt::{self, Display};
 use crate::invariant::{self, Broken};
 use crate::loops::{loops, split};
 use crate::operators::says_no;
-use crate::state::{most, Future, Message, State, Value};
-use crate::term::{Name, Term};
+use crate::state::{most, Actor, ActorNo, Future, Message, Ref, State, Value};
+use crate::term::{Invocation, Name, Term};
 use crate::{load, print, read, step};
 
 /// The rule that an actor's next move would be by, told from the redex or from the head of the inbox.
@@ -27,6 +27,8 @@ pub enum Rule {
     Get,
     Set,
     Call,
+    /// A call of a method whose name others of the receiver have too.
+    CallOfSeveral,
     CallResolve,
     Future,
     SendOwn,
@@ -48,7 +50,7 @@ pub enum Rule {
 }
 
 impl Rule {
-    pub const ALL: [Rule; 29] = [
+    pub const ALL: [Rule; 30] = [
         Rule::Let,
         Rule::Plus,
         Rule::Percent,
@@ -61,6 +63,7 @@ impl Rule {
         Rule::Get,
         Rule::Set,
         Rule::Call,
+        Rule::CallOfSeveral,
         Rule::CallResolve,
         Rule::Future,
         Rule::SendOwn,
@@ -103,6 +106,7 @@ impl Rule {
             Term::Set(..) => Rule::Set,
             Term::Future(..) => Rule::Future,
             Term::Call(call) if call.name == Name::Resolve => Rule::CallResolve,
+            Term::Call(call) if is_of_several(call, mover, actor) => Rule::CallOfSeveral,
             Term::Call(_) => Rule::Call,
             Term::Send(send) => match (send.name, send.receiver.value()) {
                 (Name::Register, Some(Value::Number(_))) => Rule::RegisterNumber,
@@ -128,6 +132,17 @@ impl Rule {
             (None, Name::Register) => Rule::TakeRegister,
         }
     }
+}
+
+/// Whether an own receiver has several methods of the name that is called.
+fn is_of_several(call: &Invocation, mover: &Actor, me: u8) -> bool {
+    let (Name::Plain(name), Some(Value::Ref(Ref { owner: ActorNo(owner), entity }))) =
+        (call.name, call.receiver.value())
+    else {
+        return false;
+    };
+    let methods = mover.parts(entity).filter(|_| owner == me).map(|parts| &parts.methods);
+    methods.is_some_and(|methods| methods.iter().filter(|method| method.name == name).count() > 1)
 }
 
 /// The counts.
@@ -298,8 +313,13 @@ mod tests {
         census.add(b"0\n(plus 1)\n", true).unwrap();
         census.add(b"0000\n(if (same 1 2) 3 (if null 4 (same 5 5)))\n", true).unwrap();
         census.add(b"00\n(if (object) 1 2)\n", true).unwrap();
-        assert_eq!((census.inputs, census.refused[2]), (5, 1));
-        assert_eq!(census.moves.values().sum::<usize>(), 12 + 4 + 2);
+        census.add(b"0000\n(let o (object (method m () 1) (method m (x) x)) (call o m (call o m)))\n", true).unwrap();
+        census.add(b"000\n(let o (object (method m () 1) (method m (x) x)) (call o m 1 2))\n", true).unwrap();
+        census.add(b"000\n(let o (object (method m () 1) (method n (x) x)) (call o m))\n", true).unwrap();
+        assert_eq!((census.inputs, census.refused[2]), (8, 1));
+        assert_eq!(census.moves.values().sum::<usize>(), 12 + 4 + 2 + 4 + 2 + 3);
+        assert_eq!([Rule::Call, Rule::CallOfSeveral].map(|rule| census.moves[&rule]), [2, 2]);
+        assert_eq!(census.stopped[&(Rule::CallOfSeveral, 12)], 1);
         assert_eq!([Rule::Same, Rule::IfYes, Rule::IfNo].map(|rule| census.moves[&rule]), [2, 1, 2]);
         assert_eq!(census.moves[&Rule::RegisterNumber], 1);
         assert_eq!(census.stopped[&(Rule::Plus, 15)], 1);

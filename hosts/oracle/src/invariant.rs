@@ -121,7 +121,8 @@ impl Check<'_> {
 
     fn methods(&self, methods: &[Method], place: &Place) -> Checked {
         must(methods.len() <= MOST_PARTS, "there are at most 4 methods")?;
-        must(!repeats(methods.iter().map(|method| method.name)), "methods differ")?;
+        let heads = methods.iter().map(|method| (method.name, method.params.len()));
+        must(!repeats(heads), "methods differ in name or in parameters")?;
         methods.iter().try_for_each(|method| {
             must(method.params.len() <= MOST_ARGS, "there are at most 3 parameters")?;
             must(!repeats(method.params.iter()), "parameters differ")?;
@@ -260,5 +261,29 @@ mod tests {
         }
         open.actors.clear();
         assert_eq!(condition(&open), "there are 1 to 4 actors");
+    }
+
+    /// Tested in the heap and in literals alike; what parameters are called makes no difference.
+    #[test]
+    fn methods_differ_in_name_or_in_parameters() {
+        let text =
+            "(object (method m () 1) (method n (x) x) (method m (x y) (object (method m (x) 1) (method m () 2))))\n";
+        (0..2).for_each(|moves| assert_eq!(holds(&state(text, moves)), Ok(())));
+        let (mut held, mut written) = (state(text, 1), state(text, 0));
+        let Entity::Object(parts) = &mut held.actors[0].made[0] else { panic!("an object is made") };
+        let mut methods = parts.methods.to_vec();
+        methods[1].name = methods[0].name;
+        parts.methods = methods.clone().into();
+        assert_eq!(holds(&held), Ok(()));
+        let Term::Object(literal) = &mut written.actors[0].expression else { panic!("a literal is loaded") };
+        methods[2].params.remove(0);
+        methods[2] = Method::new(methods[2].name, methods[2].params.clone(), Term::number(1));
+        literal.methods = methods.clone();
+        written.recount();
+        assert_eq!(condition(&written), "methods differ in name or in parameters");
+        let Entity::Object(parts) = &mut held.actors[0].made[0] else { panic!("an object is made") };
+        parts.methods = methods.into();
+        held.recount();
+        assert_eq!(condition(&held), "methods differ in name or in parameters");
     }
 }

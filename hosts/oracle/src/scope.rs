@@ -11,7 +11,7 @@ use crate::script::*;
 pub struct Findings {
     /// A variable is not bound where it stands.
     pub unbound: bool,
-    /// A list has a name twice.
+    /// A list has a name twice, a list of methods one with the same number of parameters.
     pub twice: bool,
     /// Nodes of all lines, each line but the last with the node that joins it to the next.
     pub nodes: usize,
@@ -76,7 +76,7 @@ impl Walk {
 
     fn literal(&mut self, literal: &Literal) {
         self.found.twice |= repeats(literal.fields.iter().map(|field| field.name));
-        self.found.twice |= repeats(literal.methods.iter().map(|method| method.name));
+        self.found.twice |= repeats(literal.methods.iter().map(|method| (method.name, method.params.len())));
         literal.fields.iter().for_each(|field| self.expr(&field.init));
         literal.methods.iter().for_each(|method| self.list_within(&method.params, &method.body));
     }
@@ -156,10 +156,16 @@ mod tests {
     #[test]
     fn names_given_twice() {
         assert_eq!(refusal("(object (field m 1) (method m (m) (let m 1 m)))\n"), None);
+        assert_eq!(refusal("(object (method m (x y) x) (method m () 1) (method m (x) x))\n"), None);
+        assert_eq!(refusal("(actor (method m () (isolate (method m () 1))) (method m (m) m))\n"), None);
         for text in [
             "(object (field a 1) (field a 2))\n",
-            "(object (method m () 1) (method m (x) x))\n",
+            "(object (method m () 1) (method m () 2))\n",
+            "(object (method m (x) x) (method m (y) y))\n",
+            "(isolate (method m (x y) 1) (method n () 2) (method m (x) 3) (method m (y z) 4))\n",
+            "(actor (method m () (object (method n (x) 1) (method n (y) 2))) (method m (x) 1))\n",
             "(object (method m (x y x) 1))\n",
+            "(object (method m (x x) 1) (method m (x) 2))\n",
             "(future x x 1)\n",
             "(if 1 2 (future x x 1))\n",
         ] {

@@ -36,5 +36,5 @@ fn stored_inputs_of_loops_print_what_is_stored() {
 
 #[test]
 fn stored_inputs_of_replay_print_what_is_stored() {
-    assert_eq!(check("replay", replay), 170);
+    assert_eq!(check("replay", replay), 189);
 }

@@ -2,6 +2,7 @@
 
 mod choices;
 mod listings;
+mod methods;
 mod texts;
 
 use super::rng::Rng;
@@ -27,7 +28,7 @@ pub fn input(rng: &mut Rng) -> Vec<u8> {
 /// Makes a text, and says about how many moves of one actor it takes to get to the limit.
 type Maker = fn(&mut Rng) -> (String, usize);
 
-const MAKERS: [Maker; 31] = [
+const MAKERS: [Maker; 36] = [
     inbox,
     inbox_answered,
     made,
@@ -59,6 +60,11 @@ const MAKERS: [Maker; 31] = [
     choices::long_parts,
     choices::identities,
     choices::identities,
+    methods::called,
+    methods::told,
+    methods::told,
+    methods::passed,
+    methods::grown,
 ];
 
 /// A schedule that lets actor 0 go on for long and then each of the others in turn.

@@ -42,8 +42,20 @@ const RESULTS: [Kind; 9] = [
 const WORDS: [&str; 9] = ["x", "y", "z", "k", "w", "o", "hull", "open", "abcdefghijkl"];
 /// The fields of literals; the first is there nearly always and starts as a number.
 const FIELDS: [&str; 4] = ["a", "b", "c", "d2"];
-/// The methods of literals with their parameters; the first gives a number for a number.
-const METHODS: [(&str, usize); 5] = [("go", 1), ("run", 0), ("put", 2), ("mix", 3), ("apply", 1)];
+/// The methods of literals with their parameters; the first gives a number for a number. Those of the second half have
+/// a name of the first with another number of parameters.
+const METHODS: [(&str, usize); 10] = [
+    ("go", 1),
+    ("run", 0),
+    ("put", 2),
+    ("mix", 3),
+    ("apply", 1),
+    ("go", 2),
+    ("run", 1),
+    ("put", 1),
+    ("go", 0),
+    ("apply", 2),
+];
 
 /// The text of a script.
 pub fn script(rng: &mut Rng) -> String {

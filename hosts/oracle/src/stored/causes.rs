@@ -1,14 +1,14 @@
 //! Refusals 8 to 15.
 
 use super::build::*;
-use super::{Case, Group};
+use super::{methods, Case, Group};
 use crate::census::Rule;
 use crate::state::*;
 
 pub fn groups() -> Vec<Group> {
     vec![
         Group { name: "idle", cases: idle() },
-        Group { name: "refused", cases: receivers().into_iter().chain(numbers()).collect() },
+        Group { name: "refused", cases: [receivers(), numbers(), methods::refused()].into_iter().flatten().collect() },
         Group { name: "resolved", cases: resolved() },
     ]
 }

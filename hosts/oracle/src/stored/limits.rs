@@ -9,11 +9,11 @@ use crate::term::Term;
 pub fn groups() -> Vec<Group> {
     let group = |name, cases| Group { name, cases };
     vec![
-        group("moves", moves().into_iter().chain(choosing_moves()).collect()),
+        group("moves", [moves(), choosing_moves(), named_moves()].into_iter().flatten().collect()),
         group("inboxes", inboxes()),
         group("entities", entities()),
-        group("bodies", method_bodies()),
-        group("nodes", nodes().into_iter().chain(choosing_nodes()).collect()),
+        group("bodies", method_bodies().into_iter().chain(named_bodies()).collect()),
+        group("nodes", [nodes(), choosing_nodes(), named_nodes()].into_iter().flatten().collect()),
         group("actors", actors()),
     ]
 }
@@ -72,6 +72,15 @@ fn choosing_moves() -> Vec<Case> {
         last("if-yes", "(if 1 (plus 2 3) 4)\n", Rule::IfYes, FULL, most),
         last("no-last", "(if null 1 2)\n", Rule::IfNo, INNER, most - 1),
         last("if-no", "(if null 1 2)\n", Rule::IfNo, FULL, most),
+    ]
+}
+
+/// The same of a call that finds one of several methods.
+fn named_moves() -> Vec<Case> {
+    let text = "(call (object (method m () 1) (method m (x) x)) m 2)\n";
+    vec![
+        last("name-last", text, Rule::CallOfSeveral, INNER, most::MOVES - 1),
+        last("name", text, Rule::CallOfSeveral, FULL, most::MOVES),
     ]
 }
 
@@ -166,6 +175,15 @@ fn method_bodies() -> Vec<Case> {
     ]
 }
 
+/// All methods of a name count.
+fn named_bodies() -> Vec<Case> {
+    let made = |name, answer, count| {
+        Case::new(name, "(object (method a () (plus 1 2)) (method a (x) x))\n", Rule::Object, answer)
+            .change(move |state| fill_bodies(state, 0, count))
+    };
+    vec![made("names-768", INNER, 764), made("names", FULL, 765)]
+}
+
 /// Puts so many gets around what is reduced next that the expression has a number of nodes before the move.
 fn widened(state: &mut State, nodes: usize) {
     let expression = std::mem::take(&mut state.actors[0].expression);
@@ -222,6 +240,18 @@ fn choosing_nodes() -> Vec<Case> {
         wide("yes-256", "(if 1 (plus 2 3) (get 4 a))\n", Rule::IfYes, INNER, 256),
         wide("no-256", "(if 0 (plus 2 3) (get 4 a))\n", Rule::IfNo, INNER, 256),
         Case::new("parts-256", format!("(if 1 {} {})\n", written(127), written(127)), Rule::IfYes, INNER),
+    ]
+}
+
+/// A call of three nodes becomes a body of seven, or one of one node where the longer has another number of parameters.
+fn named_nodes() -> Vec<Case> {
+    let (long, short) = ("(method a (x) (plus x (plus x (plus x x))))", "(method a () 1)");
+    let call = |args: &str| format!("(call (object {short} {long} (method a (x y) 2)) a{args})\n");
+    vec![
+        wide("name-256", &call(" 1"), Rule::CallOfSeveral, INNER, 252),
+        wide("name", &call(" 1"), Rule::CallOfSeveral, FULL, 253),
+        wide("name-less", &call(""), Rule::CallOfSeveral, INNER, 256),
+        wide("name-2", &call(" 1 3"), Rule::CallOfSeveral, INNER, 256),
     ]
 }
 

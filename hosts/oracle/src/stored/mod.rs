@@ -17,6 +17,7 @@ mod build;
 mod causes;
 mod choices;
 mod limits;
+mod methods;
 mod rules;
 
 use crate::census::Rule;

@@ -1,7 +1,7 @@
 //! A move by each rule.
 
 use super::build::*;
-use super::{choices, Case, Group};
+use super::{choices, methods, Case, Group};
 use crate::census::Rule;
 use crate::state::*;
 
@@ -9,13 +9,13 @@ pub fn groups() -> Vec<Group> {
     let group = |name, cases| Group { name, cases };
     vec![
         group("numbers", numbers().into_iter().chain(choices::cases()).collect()),
-        group("names", names()),
-        group("heap", heap()),
-        group("literals", literals()),
+        group("names", names().into_iter().chain(methods::bound()).collect()),
+        group("heap", heap().into_iter().chain(methods::called()).collect()),
+        group("literals", literals().into_iter().chain(methods::made_of()).collect()),
         group("sends", sends().into_iter().chain(listeners()).collect()),
-        group("isolates", isolates()),
+        group("isolates", isolates().into_iter().chain(methods::passed()).collect()),
         group("resolving", resolving()),
-        group("takes", takes()),
+        group("takes", takes().into_iter().chain(methods::taken()).collect()),
         group("futures", futures()),
     ]
 }

@@ -32,13 +32,16 @@ impl Writer<'_> {
         }
     }
 
+    /// Up to four methods, those at the front of the list or those at its end.
     fn methods(&mut self, fuel: usize) {
-        let (most, mut left) = (if fuel == 0 { 1 } else { METHODS.len() }, 4);
-        for (at, (name, params)) in METHODS.iter().enumerate().take(most) {
-            if left > 0 && self.rng.chance(if at == 0 { 97 } else { 35 }) {
-                left -= 1;
-                self.one_method(name, *params, fuel);
-            }
+        let most = if fuel == 0 { 1 } else { METHODS.len() };
+        let mut chosen: Vec<_> = METHODS[..most].iter().collect();
+        if self.rng.chance(40) {
+            chosen.reverse();
+        }
+        chosen.retain(|method| self.rng.chance(if **method == METHODS[0] { 97 } else { 30 }));
+        for (name, params) in chosen.into_iter().take(4) {
+            self.one_method(name, *params, fuel);
         }
     }
 
