@@ -7,7 +7,7 @@ use oracle::script::Word;
 use oracle::state::*;
 use oracle::term::{Hidden, Method, Name, Term, Var};
 
-use terms::{expression, method, nested};
+use terms::{add_namesake, expression, method, nested};
 
 /// Changes something in an actor, or the number of actors. What comes out still has room in the words of a state.
 pub fn state(rng: &mut Rng, state: &mut State) {
@@ -213,11 +213,12 @@ fn waiting(actor: &Actor) -> usize {
 fn change_parts(rng: &mut Rng, state: &State, parts: &mut Parts) {
     let mut methods = parts.methods.to_vec();
     let at = |rng: &mut Rng, length: usize| rng.below(length as u64) as usize;
-    match rng.below(7) {
+    match rng.below(9) {
         0 if parts.fields.len() < 5 => parts.fields.push((word(rng, state), value(rng, state))),
         1 => drop(parts.fields.pop()),
         2 if methods.len() < 5 => methods.push(method(rng, state, 2)),
         3 if !methods.is_empty() => drop(methods.pop()),
+        7 | 8 if methods.len() < 5 => add_namesake(rng, &mut methods),
         4 | 5 if !methods.is_empty() => {
             let at = at(rng, methods.len());
             let mut body = methods[at].body.clone();

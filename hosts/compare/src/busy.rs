@@ -78,6 +78,10 @@ const LINES: [&str; 16] = [
     "(future f r (if f (seq (send a keep f) (resolve r (same f r))) 0))",
 ];
 
+/// The methods of one parameter. One of them may be called as that of two is: the arguments tell them apart then, and what
+/// is asked for is found only where a resolver does not count.
+const OF_ONE: [&str; 3] = ["put", "keep", "tell"];
+
 /// A schedule line and a script.
 pub fn input(rng: &mut Rng) -> Vec<u8> {
     let text = script(rng);
@@ -96,6 +100,9 @@ fn script(rng: &mut Rng) -> String {
     for _ in 0..rng.between(1, 5) {
         text += rng.pick(&LINES);
         text += "\n";
+    }
+    if rng.chance(50) {
+        text = text.replace(rng.pick(&OF_ONE), "go");
     }
     text
 }

@@ -140,6 +140,29 @@ fn dictionary(rng: &mut Rng, words: &mut [u32], is_state: bool) {
     }
 }
 
+/// Gives a method the name or all of the header of one that stands near it, or another number of parameters. Methods of
+/// one name may then differ in that number, or no more.
+fn header(rng: &mut Rng, words: &mut [u32]) {
+    let found: Vec<usize> = (HEAD..words.len()).filter(|at| words[*at] >> 30 == 3).collect();
+    if found.is_empty() {
+        return;
+    }
+    let which = rng.below(found.len() as u64) as usize;
+    let (at, near) = (found[which], words[found[(which + 1) % found.len()]]);
+    let count = words[at] >> 7 & 3;
+    let place = |number: u32| 9 + 7 * number;
+    words[at] = match rng.below(8) {
+        0..=3 => words[at] & !127 | near & 127,
+        4 => near,
+        5 | 6 if count > 0 => (words[at] | 127 << place(count - 1)) - (1 << 7),
+        _ if count < 3 => {
+            let param = rng.pick(&[near >> 9 & 127, 8, 9, 10, 11, 12]);
+            (words[at] & !(127 << place(count)) | param << place(count)) + (1 << 7)
+        }
+        _ => words[at] ^ 1 << 7,
+    };
+}
+
 /// A node that may stand somewhere.
 fn node(rng: &mut Rng) -> u32 {
     let kind = match rng.below(5) {
@@ -153,7 +176,7 @@ fn node(rng: &mut Rng) -> u32 {
 /// One change. Most words of a state are 0, so what is changed is mostly sought among those that are not.
 fn change(rng: &mut Rng, words: &mut [u32], other: &[u32], is_state: bool) {
     let (at, from) = (used(rng, words), used(rng, words));
-    match rng.below(23) {
+    match rng.below(25) {
         0 => words[rng.below(words.len() as u64) as usize] = rng.below(1 << 32) as u32,
         1 | 2 => words[at] ^= 1 << rng.below(32),
         3 => words[at] = words[at].wrapping_add(1),
@@ -176,6 +199,7 @@ fn change(rng: &mut Rng, words: &mut [u32], other: &[u32], is_state: bool) {
         17 | 18 => words[at] = other[at],
         19 | 20 => operator(rng, words, is_state),
         21 => dictionary(rng, words, is_state),
+        22 | 23 => header(rng, words),
         _ if rng.chance(50) => words.fill_with(|| rng.below(1 << 32) as u32),
         _ => deep(rng, words, at),
     }

@@ -289,6 +289,29 @@ mod tests {
         }
     }
 
+    /// The second header is changed, in the expression and in the heap: a parameter fewer, one more, another word for one.
+    #[test]
+    fn methods_of_one_name_differ_in_parameters() {
+        let table = oracle::read(b"(object (method m (x) 1) (method m (x y) 2))\n").unwrap();
+        for moves in 0..2 {
+            let mut native = oracle::load(&table).unwrap();
+            oracle::run(&mut native, &vec![0; moves]);
+            let words = encode(&native);
+            let at = (HEAD..STATE).filter(|at| words[*at] >> 30 == 3).nth(1).unwrap();
+            let with = |places: [u32; 3], count: u32| {
+                let mut words = words.clone();
+                words[at] = 3 << 30 | places[2] << 23 | places[1] << 16 | places[0] << 9 | count << 7 | 8;
+                state(&words).map(|_| ())
+            };
+            assert_eq!(with([9, 10, 127], 2), Ok(()));
+            assert_eq!(with([127, 127, 127], 0), Ok(()));
+            assert_eq!(with([9, 10, 7], 3), Ok(()));
+            for param in [9, 10, 1] {
+                assert_eq!(with([param, 127, 127], 1), Err("methods differ in name or in parameters"));
+            }
+        }
+    }
+
     #[test]
     fn no_dictionary_has_a_reserved_word() {
         let words = encode(&oracle::load(&oracle::read(b"(get 1 a)\n").unwrap()).unwrap());

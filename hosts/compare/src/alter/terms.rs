@@ -2,7 +2,7 @@
 
 use oracle::generate::rng::Rng;
 use oracle::state::*;
-use oracle::term::{Literal, Method, Term};
+use oracle::term::{Hidden, Literal, Method, Term, Var};
 
 use super::{name, value, var, word};
 
@@ -33,7 +33,8 @@ fn term(rng: &mut Rng, state: &State, depth: u64) -> Term {
         15 => close(rng, state),
         kind => {
             let fields = (0..rng.below(3)).map(|_| (word(rng, state), part(rng))).collect();
-            let methods = (0..rng.below(2)).map(|_| method(rng, state, depth)).collect();
+            let mut methods = (0..rng.below(2)).map(|_| method(rng, state, depth)).collect();
+            (0..rng.below(3)).for_each(|_| add_namesake(rng, &mut methods));
             let literal = Box::new(Literal { fields, methods });
             match kind {
                 10 => Term::Object(literal),
@@ -106,6 +107,30 @@ pub fn method(rng: &mut Rng, state: &State, depth: u64) -> Method {
     Method::new(word(rng, state), params, term(rng, state, depth.saturating_sub(1)))
 }
 
+/// A method of the name of another, mostly with one parameter fewer or more. What its parameters are called is to make no
+/// difference.
+fn namesake(rng: &mut Rng, of: &Method) -> Method {
+    let count = of.params.len();
+    let count = rng.pick(&[count.saturating_sub(1), count, count + 1, (count + 2) % 4]).min(3);
+    let mut params = [Hidden::X, Hidden::S, Hidden::L].map(Var::Hidden)[..count].to_vec();
+    if count == of.params.len() && rng.chance(50) {
+        params.clone_from(&of.params);
+    }
+    let body = params.first().map_or(Term::This, |param| Term::Var(*param));
+    Method::new(of.name, params, if rng.chance(50) { body } else { Term::number(count as u32) })
+}
+
+/// Puts a method of a name that is there somewhere among methods.
+pub fn add_namesake(rng: &mut Rng, methods: &mut Vec<Method>) {
+    if methods.is_empty() {
+        return;
+    }
+    let of = rng.below(methods.len() as u64) as usize;
+    let at = rng.below(methods.len() as u64 + 1) as usize;
+    let new = namesake(rng, &methods[of]);
+    methods.insert(at, new);
+}
+
 /// Puts a small term somewhere in a term, makes what is there a part of a choice, or changes a name there.
 pub fn expression(rng: &mut Rng, state: &State, whole: &mut Term) {
     let mut at = rng.below(whole.nodes() as u64) as usize;
@@ -119,6 +144,9 @@ pub fn expression(rng: &mut Rng, state: &State, whole: &mut Term) {
         Term::Call(invocation) | Term::Send(invocation) => invocation.name = named,
         Term::Get(name, _) | Term::Set(name, _) => *name = of_word,
         Term::Let(name, _) | Term::Future(name, _, _) => *name = of_var,
+        Term::Object(literal) | Term::Isolate(literal) | Term::Actor(literal) if literal.methods.len() < 5 => {
+            add_namesake(rng, &mut literal.methods)
+        }
         _ => *found = instead.clone(),
     });
 }

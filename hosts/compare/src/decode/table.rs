@@ -93,6 +93,23 @@ impl Nodes<'_> {
 mod tests {
     use super::*;
 
+    /// The words stay in the order of their first use, so the number of parameters alone decides.
+    #[test]
+    fn methods_of_one_name_differ_in_parameters() {
+        let words =
+            encode_table(&oracle::read(b"(object (method m (x) 1) (method m (x y) 2) (method y (x) 3))\n").unwrap());
+        let at = (HEAD..TABLE).filter(|at| words[*at] >> 30 == 3).nth(1).unwrap();
+        let with = |places: u32, count: u32| {
+            let mut words = words.clone();
+            words[at] = 3 << 30 | places << 9 | count << 7 | 8;
+            table(&words).map(|table| String::from_utf8(oracle::print(&table)).unwrap())
+        };
+        let none = 127 << 7 | 127 << 14;
+        assert_eq!(with(127 | none, 0).unwrap(), "(object (method m (x) 1) (method m () 2) (method y (x) 3))\n");
+        assert!(with(9 | 10 << 7 | 8 << 14, 3).is_some());
+        assert_eq!((with(9 | none, 1), with(10 | none, 1)), (None, None));
+    }
+
     #[test]
     fn operators_have_their_operands() {
         let words = encode_table(&oracle::read(b"(if (same 1 2) 3 4)\n").unwrap());
