@@ -4,7 +4,8 @@
  * A script's text is read into a table, a table is loaded into a state, and actors of a state move. The caller lends all memory: a
  * table is ATLITE_TABLE_WORDS words, a state ATLITE_STATE_WORDS. Both are plain data, so they may be copied, stored, compared with memcmp
  * and sent elsewhere. Two states that are the same have the same words. Of those that were stored before `if` and `same` were words of the
- * language, the ones whose script has either as a name of its own are ATLITE_NEITHER now; all others are what they were.
+ * language, the ones whose script has either as a name of its own are ATLITE_NEITHER now; all others are what they were. Every table and
+ * state from before methods of one name were told apart by the number of their parameters is one still.
  *
  * Every call returns ATLITE_DONE or the number of the cause that refused it. Whatever stands in the lent memory, the answer is one that
  * the engine's contracts give: no call asks that words are a table or a state, it tests them and returns ATLITE_NEITHER. A refused call
@@ -46,7 +47,8 @@ enum {
     ATLITE_TEXT_LENGTH = 1,  /* the text is empty or has over 4,096 bytes */
     ATLITE_GRAMMAR = 2,      /* the text is not of the grammar */
     ATLITE_BINDING = 3,      /* a variable that nothing binds, or the binding rule broken */
-    ATLITE_TWICE = 4,        /* one list has two fields, methods or parameters of one name, or a future names both its parts alike */
+    ATLITE_TWICE = 4,        /* one list has two fields or parameters of one name, or two methods of one name and as many parameters;
+                                or a future names both its parts alike */
     ATLITE_TOO_LARGE = 5,    /* too many brackets open together, different words or nodes */
     ATLITE_SHORT = 6,        /* a lent buffer is shorter than its published length, or than the text to write */
     ATLITE_NEITHER = 7,      /* the words are not those of a table that was read, or of a state */
@@ -54,7 +56,7 @@ enum {
     ATLITE_NOTHING = 9,      /* the actor's expression is a value and its inbox is empty */
     ATLITE_RECEIVER = 10,    /* get, set, call or send on null or a number, which take nothing but a listener */
     ATLITE_NOT_OWN = 11,     /* get, set or call on what another actor owns */
-    ATLITE_NO_MEMBER = 12,   /* no such field or method, another number of arguments, or an entity of another kind */
+    ATLITE_NO_MEMBER = 12,   /* no such field, no method of the name for so many arguments, or an entity of another kind */
     ATLITE_RESOLVED = 13,    /* the future is resolved already */
     ATLITE_FUTURE = 14,      /* a future given as the value of a future */
     ATLITE_ARITHMETIC = 15,  /* plus or percent on what is no number, or a result over 16777215 */

@@ -131,6 +131,7 @@ static void reading(void)
         {"(def x 1)\n(actor (field a x))\n", ATLITE_BINDING},
         {"(object (field a 1) (field a 2))\n", ATLITE_TWICE},
         {"(future x x 1)\n", ATLITE_TWICE},
+        {"(object (method m (x) 1) (method m (y) 2))\n", ATLITE_TWICE},
     };
     uint32_t *table = lend(4 * ATLITE_TABLE_WORDS, 0x33);
     for (size_t i = 0; i < sizeof refused / sizeof refused[0]; i += 1) {
@@ -245,6 +246,8 @@ static void moving(void)
         {"(get (actor (field a 1)) a)\n", ATLITE_NOT_OWN},
         {"(get (object (field a 1)) b)\n", ATLITE_NO_MEMBER},
         {"(future f r (seq (call r apply 1) f))\n", ATLITE_NO_MEMBER},
+        {"(call (object (method m () 1) (method m (x y) 2)) m 3)\n", ATLITE_NO_MEMBER},
+        {"(ask (object (method m () 1) (method m (x y) 2)) m 3)\n", ATLITE_NO_MEMBER},
         {"(future f r (seq (resolve r 1) (resolve r 2)))\n", ATLITE_RESOLVED},
         {"(plus 16777215 1)\n", ATLITE_ARITHMETIC},
         {"(percent null 1)\n", ATLITE_ARITHMETIC},
@@ -315,6 +318,58 @@ static void reserved(void)
     EXPECT(bytes == 15 && memcmp(out, "(get null iff)\n", 15) == 0);
 }
 
+#define CUTS "(method cut (l) l) (method cut (l w) (plus l w))"
+
+/* The header of a method: two bits, its name, the number of its parameters and three places for them, an empty one having 127. */
+static uint32_t header(uint32_t name, uint32_t count, uint32_t first, uint32_t second)
+{
+    return (uint32_t)3 << 30 | (uint32_t)127 << 23 | second << 16 | first << 9 | count << 7 | name;
+}
+
+/* Two methods of one name, found by the number of arguments. */
+static void naming(void)
+{
+    static const struct {
+        const char *text;
+        const char *listing;
+    } called[] = {
+        {"(call (object " CUTS ") cut 4)\n", "(actor 0 2 1 0 4)\n(object 0 m 0 " CUTS ")\n"},
+        {"(call (object " CUTS ") cut 4 5)\n", "(actor 0 3 1 0 9)\n(object 0 m 0 " CUTS ")\n"},
+        {"(send (isolate " CUTS ") cut 4)\n", "(actor 0 4 1 0 4)\n(isolate 0 m 0 " CUTS ")\n"},
+        {"(send (isolate " CUTS ") cut 4 5)\n", "(actor 0 5 1 0 9)\n(isolate 0 m 0 " CUTS ")\n"},
+    };
+    for (size_t i = 0; i < sizeof called / sizeof called[0]; i += 1) {
+        uint32_t *state = begin(called[i].text);
+        if (until_refused(state, 0) != ATLITE_NOTHING || !lists(state, called[i].listing)) {
+            printf("check.c: another end than that of %s\n", called[i].text);
+            failures += 1;
+        }
+    }
+}
+
+/* Words in which two methods have both alike are none. A state's expression begins with word 272, a table's first line with word 256. */
+static void namesakes(void)
+{
+    size_t moves, refusals, bytes;
+    uint8_t out[100];
+    uint32_t *state = begin("(object (method m (x) 1) (method m (x y) 2))\n");
+    EXPECT(state[275] == header(8, 2, 9, 10));
+    state[275] = header(8, 1, 10, 127);
+    EXPECT(atlite_run(state, ATLITE_STATE_WORDS, out, 0, &moves, &refusals) == ATLITE_NEITHER);
+    state[275] = header(8, 0, 127, 127);
+    EXPECT(atlite_run(state, ATLITE_STATE_WORDS, out, 0, &moves, &refusals) == ATLITE_DONE);
+
+    static const char *const text = "(object (method m (x) 1) (method m () 2) (method y (x) 3))\n";
+    uint32_t *table = lend(4 * ATLITE_TABLE_WORDS, 0);
+    EXPECT(read_text("(object (method m (x) 1) (method m (x y) 2) (method y (x) 3))\n", table, ATLITE_TABLE_WORDS) == ATLITE_DONE);
+    EXPECT(table[259] == header(8, 2, 9, 10));
+    table[259] = header(8, 1, 9, 127);
+    EXPECT(atlite_print(table, ATLITE_TABLE_WORDS, out, sizeof out, &bytes) == ATLITE_NEITHER);
+    table[259] = header(8, 0, 127, 127);
+    EXPECT(atlite_print(table, ATLITE_TABLE_WORDS, out, sizeof out, &bytes) == ATLITE_DONE);
+    EXPECT(bytes == strlen(text) && memcmp(out, text, bytes) == 0);
+}
+
 static void running(void)
 {
     size_t moves = 77, refusals = 88;
@@ -375,6 +430,8 @@ int main(void)
     moving();
     choosing();
     reserved();
+    naming();
+    namesakes();
     running();
     listing();
     if (failures == 0) {

@@ -22,7 +22,8 @@ static const char *const causes[] = {
     "the text is empty or has over 4096 bytes",
     "the text is not of the grammar",
     "a variable that nothing binds, or the binding rule is broken",
-    "one list has two fields, methods or parameters of one name, or a future names both its parts alike",
+    "one list has two fields or parameters of one name, or two methods of one name and as many parameters, "
+    "or a future names both its parts alike",
     "too many brackets open together, different words or nodes",
     "a buffer is too short",
     "the words are not those of a table, or of a state",
@@ -30,7 +31,7 @@ static const char *const causes[] = {
     "nothing to do: a value, and the inbox is empty",
     "get, set, call or send on null or a number",
     "get, set or call on what another actor owns",
-    "no such field or method, another number of arguments, or an entity of another kind",
+    "no such field, no method of the name for so many arguments, or an entity of another kind",
     "the future is resolved already",
     "a future given as the value of a future",
     "plus or percent on what is no number, or a result over 16777215",

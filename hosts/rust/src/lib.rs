@@ -83,7 +83,8 @@ impl Table {
     }
 
     /// The table in the first [`TABLE_WORDS`] words: [`Refusal::Short`] where they are too few, [`Refusal::Neither`] where they are none, as
-    /// those of a script that has `if` or `same` as a name, which was one before the two were reserved.
+    /// those of a script that has `if` or `same` as a name, which was one before the two were reserved. Every table from before methods of
+    /// one name were told apart by the number of their parameters is one still.
     pub fn from_words(words: &[u32]) -> Result<Table, Refusal> {
         lent::print(words, &mut [0; TEXT_BYTES])?;
         Ok(Table {
@@ -152,7 +153,8 @@ pub struct State {
 }
 
 impl State {
-    /// The state in the first [`STATE_WORDS`] words: [`Refusal::Short`] where they are too few, [`Refusal::Neither`] where they are none.
+    /// The state in the first [`STATE_WORDS`] words: [`Refusal::Short`] where they are too few, [`Refusal::Neither`] where they are none. Every
+    /// state from before methods of one name were told apart by the number of their parameters is one still.
     ///
     /// ```
     /// use atlite::{Refusal, State, Table};

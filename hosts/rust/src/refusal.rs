@@ -24,7 +24,8 @@ pub enum Refusal {
     Grammar = 2,
     /// A variable that nothing binds, or the binding rule is broken.
     Binding = 3,
-    /// One list has two fields, methods or parameters of one name, or a future names both its parts alike.
+    /// One list has two fields or parameters of one name, or two methods of one name and as many parameters; or a future names both its
+    /// parts alike.
     Twice = 4,
     /// Over 32 brackets open together, 64 different words or 512 nodes.
     TooLarge = 5,
@@ -40,7 +41,7 @@ pub enum Refusal {
     Receiver = 10,
     /// Get, set or call on what another actor owns.
     NotOwn = 11,
-    /// No such field or method, another number of arguments, or an entity of another kind.
+    /// No such field, no method of the name for so many arguments, or an entity of another kind.
     NoMember = 12,
     /// The future is resolved already.
     Resolved = 13,
@@ -100,7 +101,8 @@ impl Refusal {
             Refusal::Grammar => "the text is not of the grammar",
             Refusal::Binding => "a variable that nothing binds, or the binding rule is broken",
             Refusal::Twice => {
-                "one list has two fields, methods or parameters of one name, or a future names both its parts alike"
+                "one list has two fields or parameters of one name, or two methods of one name and as many parameters, \
+                 or a future names both its parts alike"
             }
             Refusal::TooLarge => "over 32 brackets open together, 64 different words or 512 nodes",
             Refusal::Short => "a buffer is too short",
@@ -110,7 +112,7 @@ impl Refusal {
             Refusal::Receiver => "get, set, call or send on null or a number",
             Refusal::NotOwn => "get, set or call on what another actor owns",
             Refusal::NoMember => {
-                "no such field or method, another number of arguments, or an entity of another kind"
+                "no such field, no method of the name for so many arguments, or an entity of another kind"
             }
             Refusal::Resolved => "the future is resolved already",
             Refusal::Future => "a future given as the value of a future",
