@@ -17,7 +17,7 @@ struct Plan {
 }
 
 /// The cases in the order of the tables. Those that come to rest have fewer moves than the most.
-const PLANS: [Plan; 9] = [
+const PLANS: [Plan; 10] = [
     Plan {
         name: "small",
         about: "one actor with one object that calls itself",
@@ -78,6 +78,13 @@ const PLANS: [Plan; 9] = [
         name: "choose",
         about: "hulls and lengths told apart, and prices chosen by them",
         file: "bench/scripts/choose.atl",
+        lead: 0,
+        most: 1000,
+    },
+    Plan {
+        name: "overload",
+        about: "four methods of one name that call each other",
+        file: "bench/scripts/overload.atl",
         lead: 0,
         most: 1000,
     },
