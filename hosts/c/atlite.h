@@ -47,8 +47,8 @@ enum {
     ATLITE_TEXT_LENGTH = 1,  /* the text is empty or has over 4,096 bytes */
     ATLITE_GRAMMAR = 2,      /* the text is not of the grammar */
     ATLITE_BINDING = 3,      /* a variable that nothing binds, or the binding rule broken */
-    ATLITE_TWICE = 4,        /* one list has two fields or parameters of one name, or two methods of one name and as many parameters;
-                                or a future names both its parts alike */
+    ATLITE_TWICE = 4,        /* one list has two fields or parameters of one name, or two methods of one name and equally many
+                                parameters; or a future names both its parts alike */
     ATLITE_TOO_LARGE = 5,    /* too many brackets open together, different words or nodes */
     ATLITE_SHORT = 6,        /* a lent buffer is shorter than its published length, or than the text to write */
     ATLITE_NEITHER = 7,      /* the words are not those of a table that was read, or of a state */

@@ -22,7 +22,7 @@ static const char *const causes[] = {
     "the text is empty or has over 4096 bytes",
     "the text is not of the grammar",
     "a variable that nothing binds, or the binding rule is broken",
-    "one list has two fields or parameters of one name, or two methods of one name and as many parameters, "
+    "one list has two fields or parameters of one name, or two methods of one name and equally many parameters, "
     "or a future names both its parts alike",
     "too many brackets open together, different words or nodes",
     "a buffer is too short",

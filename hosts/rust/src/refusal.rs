@@ -24,8 +24,8 @@ pub enum Refusal {
     Grammar = 2,
     /// A variable that nothing binds, or the binding rule is broken.
     Binding = 3,
-    /// One list has two fields or parameters of one name, or two methods of one name and as many parameters; or a future names both its
-    /// parts alike.
+    /// One list has two fields or parameters of one name, or two methods of one name and equally many parameters; or a future names both
+    /// its parts alike.
     Twice = 4,
     /// Over 32 brackets open together, 64 different words or 512 nodes.
     TooLarge = 5,
@@ -101,7 +101,7 @@ impl Refusal {
             Refusal::Grammar => "the text is not of the grammar",
             Refusal::Binding => "a variable that nothing binds, or the binding rule is broken",
             Refusal::Twice => {
-                "one list has two fields or parameters of one name, or two methods of one name and as many parameters, \
+                "one list has two fields or parameters of one name, or two methods of one name and equally many parameters, \
                  or a future names both its parts alike"
             }
             Refusal::TooLarge => "over 32 brackets open together, 64 different words or 512 nodes",
