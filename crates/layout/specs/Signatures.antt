@@ -27,7 +27,7 @@ module _ (L : ℕ) where
   signed-same s t i j = go (eqb (signed L s) (signed L t)) refl
     where
       differ : (a b : Bool) → eqb (s .0) (t .0) ≡ a → eqb (s .1) (t .1) ≡ b → (signed L s ≡ signed L t → ⊥) → false ≡ a && b
-      differ true true x y d = absurd (d (ap₂ (λ m k. m + L * k) (eqb-true (s .0) (t .0) x) (eqb-true (s .1) (t .1) y)))
+      differ true true x y d = absurd (d (ap₂ (λ m k. signed L (m, k)) (eqb-true (s .0) (t .0) x) (eqb-true (s .1) (t .1) y)))
       differ true false x y d = refl
       differ false b x y d = refl
 
