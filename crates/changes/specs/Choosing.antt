@@ -3,26 +3,26 @@
 -- What a script writes as (if c d e) is `choose` among the operators. A rule is stated by any rules of the two, so that a rule without them is an
 -- instance: where the redex is neither, its move is the same whatever they are.
 use Prim.Native.Nat.{ℕ}
-use mathlib.Core.Path.{_≡_, refl, ap}
+use mathlib.Core.Path.{_≡_, refl, ap, _∙_}
 use mathlib.Core.Bool.{Bool, true, false, _||_}
 use mathlib.Core.List.{List}
 use mathlib.Core.Option.{some}
 use lib.Dec.{eqb}
 use lib.ListN.{getElem?}
 use borrow.Author.Tests.{ne-eqb}
-use Rattle.atlite.specs.Base.{Result, require, bytes, if_then_else_}
+use Rattle.atlite.specs.Base.{require, bytes, if_then_else_}
 use Rattle.atlite.specs.Laws.{same-value, value-same}
 use Rattle.atlite.specs.Lexicon.{isWord}
 use Rattle.atlite.specs.Replay.{All}
-use Rattle.atlite.specs.Term.{Value, null, num, ref, Name, Op, same, choose, Term, val, var, op, letIn, future, literal, Terms, cons, two, demanded, areValues, valueOf, valuesOf, isValue}
+use Rattle.atlite.specs.Term.{Value, null, num, ref, Op, same, choose, Term, val, var, op, letIn, future, literal, cons, two, demanded, areValues, valueOf, valuesOf, isValue}
 use Rattle.atlite.specs.State.{Actor, State, sameValue}
 use Rattle.atlite.specs.Redex.{redex}
-use Rattle.atlite.specs.Outcome.{inner, Outcome, becomes}
+use Rattle.atlite.specs.Outcome.{inner, becomes}
 use Rattle.atlite.specs.Rules.{number, sameRule, saysNo, choice, chooseRule, pairOf, oneOf, operate, rule}
 use Rattle.atlite.specs.Limits.{Bounds}
 use Rattle.atlite.specs.Move.{moveWithin}
 use Rattle.layout.specs.Terms.{opKind}
-use Rattle.changes.specs.MoveBy.{Rule, moveBy, redex-agrees}
+use Rattle.changes.specs.MoveBy.{Rule, moveBy, redex-agrees, Operators, present, ruleOf, each-rule, rule-present}
 
 -- ---- if
 -- only the first part is on the way to the redex
@@ -85,19 +85,17 @@ same-reserved = refl
 
 -- ---- a rule by rules of the two operators
 abbrev pub TwoRules : Type 0
-TwoRules = List Actor → ℕ → Actor → Op Name → Terms → Result Outcome
+TwoRules = Operators
 
 -- whether an operator is one of the two, by their kinds
 unfoldable pub isNew : {N : Type 0} → Op N → Bool
 isNew o = eqb (opKind o) 18 || eqb (opKind o) 19
 
-unfoldable pub ruleBy : TwoRules → Rule
-ruleBy X s a A (val v) = rule s a A (val v)
-ruleBy X s a A (var x) = rule s a A (var x)
-ruleBy X s a A (op o es) = if isNew o then X s a A o es else operate s a A o (valuesOf es) es
-ruleBy X s a A (letIn x e d) = rule s a A (letIn x e d)
-ruleBy X s a A (future x y e) = rule s a A (future x y e)
-ruleBy X s a A (literal k fs ms) = rule s a A (literal k fs ms)
+unfoldable pub operateBy : TwoRules → Operators
+operateBy X s a A o es = if isNew o then X s a A o es else present s a A o es
+
+abbrev pub ruleBy : TwoRules → Rule
+ruleBy X = ruleOf (operateBy X)
 
 -- whether a term is one of the two
 unfoldable pub chooses : Term → Bool
@@ -109,13 +107,8 @@ chooses (future x y e) = false
 chooses (literal k fs ms) = false
 
 rule-before : (X : TwoRules) (s : List Actor) (a : ℕ) (A : Actor) (e : Term) → chooses e ≡ false → ruleBy X s a A e ≡ rule s a A e
-unfolding ruleBy rule chooses if_then_else_
-rule-before X s a A (val v) h = refl
-rule-before X s a A (var x) h = refl
-rule-before X s a A (op o es) h = rw h
-rule-before X s a A (letIn x e d) h = refl
-rule-before X s a A (future x y e) h = refl
-rule-before X s a A (literal k fs ms) h = refl
+unfolding operateBy chooses if_then_else_
+rule-before X s a A e h = each-rule (operateBy X) present (λ e r u. chooses e ≡ false → r ≡ u) s a A (λ e r k. refl) (λ o es k. rw k) e h ∙ rule-present s a A e
 
 -- A move answers and leaves what it does without the two, refusals too, unless the actor's redex is one of them.
 pub move-before : (X : TwoRules) (B : Bounds) (σ : State) (a : ℕ) → ((A : Actor) → getElem? (σ .actors) a ≡ some A → chooses (redex (A .expr)) ≡ false) → moveBy (ruleBy X) B σ a ≡ moveWithin B σ a

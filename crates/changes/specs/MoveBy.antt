@@ -7,11 +7,11 @@ use mathlib.Core.List.{List, [], _∷_}
 use mathlib.Core.Option.{Option, none, some}
 use lib.ListN.{getElem?}
 use Rattle.atlite.specs.Base.{Result, done, refused, _>>=_, orRefuse, if_then_else_}
-use Rattle.atlite.specs.Term.{Term, isValue}
+use Rattle.atlite.specs.Term.{Name, Op, Shape, exactly, onField, calling, sending, Term, val, var, op, letIn, future, literal, Terms, isValue, valuesOf}
 use Rattle.atlite.specs.State.{Actor, State}
 use Rattle.atlite.specs.Redex.{redex}
 use Rattle.atlite.specs.Outcome.{Outcome}
-use Rattle.atlite.specs.Rules.{rule}
+use Rattle.atlite.specs.Rules.{operate, rule}
 use Rattle.atlite.specs.Limits.{Bounds, full}
 use Rattle.atlite.specs.Move.{takeRule, turn, free, Answer, Moved, limited, moveWithin, move}
 use Rattle.atlite.specs.Run.{Counts, Ran, begun, after, runFrom, run}
@@ -21,6 +21,50 @@ use Rattle.layout.specs.Meaning.{Reply, answered, lent, moveCall, runCall}
 abbrev pub Rule : Type 0
 Rule = List Actor → ℕ → Actor → Term → Result Outcome
 
+-- ---- rules in which operators go by another rule than theirs
+abbrev pub Operators : Type 0
+Operators = List Actor → ℕ → Actor → Op Name → Terms → Result Outcome
+
+abbrev pub present : Operators
+present s a A o es = operate s a A o (valuesOf es) es
+
+unfoldable pub ruleOf : Operators → Rule
+ruleOf X s a A (val v) = rule s a A (val v)
+ruleOf X s a A (var x) = rule s a A (var x)
+ruleOf X s a A (op o es) = X s a A o es
+ruleOf X s a A (letIn x e d) = rule s a A (letIn x e d)
+ruleOf X s a A (future x y e) = rule s a A (future x y e)
+ruleOf X s a A (literal k fs ms) = rule s a A (literal k fs ms)
+
+-- f of the name where an operator of the shape calls, g where it sends, x for all others
+unfoldable pub byMessage : {X : Type 0} → Shape Name → (Name → X) → (Name → X) → X → X
+byMessage (exactly k) f g x = x
+byMessage (onField n k) f g x = x
+byMessage (calling m) f g x = f m
+byMessage (sending m) f g x = g m
+
+-- what is so of two such rules for every operator is so of them for every term, if it is so of a result and itself
+pub each-rule : (X Y : Operators) (Q : Term → Result Outcome → Result Outcome → Type 0) (s : List Actor) (a : ℕ) (A : Actor)
+    → ((e : Term) (r : Result Outcome) → Q e r r) → ((o : Op Name) (es : Terms) → Q (op o es) (X s a A o es) (Y s a A o es)) → (e : Term) → Q e (ruleOf X s a A e) (ruleOf Y s a A e)
+unfolding ruleOf
+each-rule X Y Q s a A h k (val v) = h (val v) _
+each-rule X Y Q s a A h k (var x) = h (var x) _
+each-rule X Y Q s a A h k (op o es) = k o es
+each-rule X Y Q s a A h k (letIn x e d) = h (letIn x e d) _
+each-rule X Y Q s a A h k (future x y e) = h (future x y e) _
+each-rule X Y Q s a A h k (literal n fs ms) = h (literal n fs ms) _
+
+-- by the present rules of operators it is the present rule
+pub rule-present : (s : List Actor) (a : ℕ) (A : Actor) (e : Term) → ruleOf present s a A e ≡ rule s a A e
+unfolding ruleOf rule
+rule-present s a A (val v) = refl
+rule-present s a A (var x) = refl
+rule-present s a A (op o es) = refl
+rule-present s a A (letIn x e d) = refl
+rule-present s a A (future x y e) = refl
+rule-present s a A (literal k fs ms) = refl
+
+-- ---- turns, moves, runs and calls
 unfoldable pub turnBy : Rule → List Actor → ℕ → Actor → Result Outcome
 turnBy R s a A = if isValue (A .expr) then takeRule a A (A .inbox) else R s a A (redex (A .expr))
 

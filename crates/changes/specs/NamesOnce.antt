@@ -12,7 +12,7 @@ use lib.Dec.{eqb}
 use borrow.Author.Tests.{eqb-true}
 use Rattle.atlite.specs.Base.{Result, done, refused, _>>=_, _>>_, require, any, distinct, distinctBy, member, if_then_else_}
 use Rattle.atlite.specs.Facts.{and₂, both₂, Every, holds, nothing, every-weaken}
-use Rattle.atlite.specs.Term.{this, ·t, ·x, apply, Value, null, Name, plain, twoWay, resolve, register, Op, Shape, exactly, onField, calling, sending, shape, Term, val, var, op, letIn, future, literal, Terms, Methods, noMethod, method, Signature, sameSignature, signatures, valuesOf}
+use Rattle.atlite.specs.Term.{this, ·t, ·x, apply, Value, null, Name, plain, twoWay, resolve, register, Op, shape, Term, val, var, Terms, Methods, noMethod, method, Signature, sameSignature, signatures, valuesOf}
 use Rattle.atlite.specs.Subst.{Subst, subst, substParams}
 use Rattle.atlite.specs.State.{Actor, State}
 use Rattle.atlite.specs.Redex.{redex}
@@ -25,7 +25,7 @@ use Rattle.atlite.specs.Table.{Table}
 use Rattle.atlite.specs.Load.{load}
 use Rattle.layout.specs.Kinds.{Row, isBare, isField, isCall, isSend, row}
 use Rattle.layout.specs.Meaning.{lent, moveCall, runCall}
-use Rattle.changes.specs.MoveBy.{Rule, moveBy, runBy, moveCallBy, runCallBy, redex-agrees, run-kept, run-same, move-call-same, run-call-same}
+use Rattle.changes.specs.MoveBy.{Rule, moveBy, runBy, moveCallBy, runCallBy, redex-agrees, run-kept, run-same, move-call-same, run-call-same, Operators, present, ruleOf, byMessage, each-rule, rule-present}
 use Rattle.changes.specs.Throughout.{Allows, AnyOperator}
 use Rattle.changes.specs.ThroughoutMoves.{ThroughoutActor, ThroughoutState, all-at, own-throughout, methods-throughout, move-throughout}
 use Rattle.changes.specs.ThroughoutLoads.{AnyWritten, ThroughoutTable, load-throughout}
@@ -54,23 +54,13 @@ callByNameBy I s a A v (twoWay m) vs = callByName s a A v (twoWay m) vs
 callByNameBy I s a A v resolve vs = callByName s a A v resolve vs
 callByNameBy I s a A v register vs = callByName s a A v register vs
 
--- f of the name where an operator of the shape calls, x for all others
-unfoldable pub byCall : {X : Type 0} → Shape Name → (Name → X) → X → X
-byCall (exactly k) f x = x
-byCall (onField n k) f x = x
-byCall (calling m) f x = f m
-byCall (sending m) f x = x
+unfoldable pub operateBy : LookUp → Operators
+operateBy I s a A o es =
+    let r = present s a A o es in
+    byMessage (shape o) (λ m. receiverOf (valuesOf es) >>= λ (v, us). callByNameBy I s a A v m us) (λ m. r) r
 
-unfoldable pub operateBy : LookUp → List Actor → ℕ → Actor → Op Name → List Value → Terms → Result Outcome
-operateBy I s a A o vs es = byCall (shape o) (λ m. receiverOf vs >>= λ (v, us). callByNameBy I s a A v m us) (operate s a A o vs es)
-
-unfoldable pub ruleBy : LookUp → Rule
-ruleBy I s a A (val v) = rule s a A (val v)
-ruleBy I s a A (var x) = rule s a A (var x)
-ruleBy I s a A (op o es) = operateBy I s a A o (valuesOf es) es
-ruleBy I s a A (letIn x e d) = rule s a A (letIn x e d)
-ruleBy I s a A (future x y e) = rule s a A (future x y e)
-ruleBy I s a A (literal k fs ms) = rule s a A (literal k fs ms)
+abbrev pub ruleBy : LookUp → Rule
+ruleBy I = ruleOf (operateBy I)
 
 abbrev pub ruleBefore : Rule
 ruleBefore = ruleBy invokeBefore
@@ -95,22 +85,20 @@ module _ (I : LookUp) (s : List Actor) (a : ℕ) (A : Actor) (h : Finds I a A) w
   by-name-same v resolve vs = refl
   by-name-same v register vs = refl
 
-  operate-same : {o : Op Name} (vs : List Value) (es : Terms) → Row o → operateBy I s a A o vs es ≡ operate s a A o vs es
-  unfolding operateBy byCall operate receiverOf
-  operate-same vs es (isBare o n e f w) = rw (e .1)
-  operate-same vs es (isField c k n e f i w) = rw (e .0 f .1)
-  operate-same [] es (isCall m) = refl
-  operate-same (v ∷ vs) es (isCall m) = by-name-same v m vs
-  operate-same vs es (isSend m) = refl
+  asked-same : (m : Name) (vs : List Value) → (receiverOf vs >>= λ (v, us). callByNameBy I s a A v m us) ≡ (receiverOf vs >>= λ (v, us). callByName s a A v m us)
+  unfolding receiverOf
+  asked-same m [] = refl
+  asked-same m (v ∷ vs) = by-name-same v m vs
+
+  operate-same : {o : Op Name} (es : Terms) → Row o → operateBy I s a A o es ≡ present s a A o es
+  unfolding operateBy byMessage operate
+  operate-same es (isBare o n e f w) = rw (e .1)
+  operate-same es (isField c k n e f i w) = rw (e .0 f .1)
+  operate-same es (isCall m) = asked-same m (valuesOf es)
+  operate-same es (isSend m) = refl
 
   rule-same : (e : Term) → ruleBy I s a A e ≡ rule s a A e
-  unfolding ruleBy rule
-  rule-same (val v) = refl
-  rule-same (var x) = refl
-  rule-same (op o es) = operate-same (valuesOf es) es (row o)
-  rule-same (letIn x e d) = refl
-  rule-same (future x y e) = refl
-  rule-same (literal k fs ms) = refl
+  rule-same e = each-rule (operateBy I) present (λ e r u. r ≡ u) s a A (λ e r. refl) (λ o es. operate-same es (row o)) e ∙ rule-present s a A e
 
 anyway : {X : Type 0} {P : X → Type 0} (r : Result X) → ((x : X) → P x) → Every P r
 anyway (done x) k = holds (k x)

@@ -12,7 +12,7 @@ use lib.ListN.{length, getElem?}
 use lib.Dec.{ltb}
 use Rattle.atlite.specs.Base.{Result, done, refused, _>>=_, _>>_, orRefuse, require, if_then_else_}
 use Rattle.atlite.specs.Facts.{refused-done}
-use Rattle.atlite.specs.Term.{Value, null, num, ref, Name, plain, twoWay, resolve, register, Op, send, Shape, exactly, onField, calling, sending, shape, Term, val, var, op, letIn, future, literal, Terms, valuesOf, isValue}
+use Rattle.atlite.specs.Term.{Value, null, num, ref, Name, plain, twoWay, resolve, register, Op, send, shape, Term, val, op, Terms, valuesOf, isValue}
 use Rattle.atlite.specs.State.{message, Actor, State}
 use Rattle.atlite.specs.Redex.{redex}
 use Rattle.atlite.specs.Outcome.{inner, sends, Outcome, becomes}
@@ -23,7 +23,7 @@ use Rattle.atlite.specs.Move.{Answer, Moved, limited, moveWithin, move}
 use Rattle.layout.specs.Kinds.{Row, isBare, isField, isCall, isSend, row}
 use Rattle.layout.specs.Layout.{encode}
 use Rattle.layout.specs.Meaning.{Reply, answered, lent, moveCall}
-use Rattle.changes.specs.MoveBy.{turnBy, moveBy, moveCallBy, redex-agrees}
+use Rattle.changes.specs.MoveBy.{turnBy, moveBy, moveCallBy, redex-agrees, Rule, Operators, present, ruleOf, byMessage, each-rule, rule-present}
 
 -- ---- what null takes
 -- the listener that a .register brings to it is sent null, in one move inside the expression
@@ -43,23 +43,13 @@ null-refuses s a A register es vs e h = absurd (h refl)
 abbrev pub SendRule : Type 0
 SendRule = List Actor → ℕ → Actor → Value → Name → List Value → Result Outcome
 
--- f of the name where an operator of the shape sends, x for all others
-unfoldable pub bySend : {X : Type 0} → Shape Name → (Name → X) → X → X
-bySend (exactly k) f x = x
-bySend (onField n k) f x = x
-bySend (calling m) f x = x
-bySend (sending m) f x = f m
+unfoldable pub operateBy : SendRule → Operators
+operateBy S s a A o es =
+    let r = present s a A o es in
+    byMessage (shape o) (λ m. r) (λ m. receiverOf (valuesOf es) >>= λ (v, us). S s a A v m us) r
 
-unfoldable pub operateBy : SendRule → List Actor → ℕ → Actor → Op Name → List Value → Terms → Result Outcome
-operateBy S s a A o vs es = bySend (shape o) (λ m. receiverOf vs >>= λ (v, us). S s a A v m us) (operate s a A o vs es)
-
-unfoldable pub ruleBy : SendRule → List Actor → ℕ → Actor → Term → Result Outcome
-ruleBy S s a A (val v) = rule s a A (val v)
-ruleBy S s a A (var x) = rule s a A (var x)
-ruleBy S s a A (op o es) = operateBy S s a A o (valuesOf es) es
-ruleBy S s a A (letIn x e d) = rule s a A (letIn x e d)
-ruleBy S s a A (future x y e) = rule s a A (future x y e)
-ruleBy S s a A (literal k fs ms) = rule s a A (literal k fs ms)
+abbrev pub ruleBy : SendRule → Rule
+ruleBy S = ruleOf (operateBy S)
 
 -- ---- the rule of send before the request
 unfoldable pub sendBefore : SendRule
@@ -74,24 +64,18 @@ sendBefore s a A (ref b r n) m vs = do
   becomes (sends (record { to = b; mail = message (ref b r n) m vs; copies = met })) A (val null)
 
 -- ---- by the present rule of send it is the present rule
-operate-now : (s : List Actor) (a : ℕ) (A : Actor) (o : Op Name) (vs : List Value) (es : Terms) → operateBy sendRule s a A o vs es ≡ operate s a A o vs es
-unfolding operateBy bySend operate
-operate-now s a A o vs es = go (row o)
+operate-now : (s : List Actor) (a : ℕ) (A : Actor) (o : Op Name) (es : Terms) → operateBy sendRule s a A o es ≡ present s a A o es
+unfolding operateBy byMessage operate
+operate-now s a A o es = go (row o)
   where
-    go : {o : Op Name} → Row o → operateBy sendRule s a A o vs es ≡ operate s a A o vs es
+    go : {o : Op Name} → Row o → operateBy sendRule s a A o es ≡ present s a A o es
     go (isBare o n e f w) = rw (e .1)
     go (isField c k n e f i w) = rw (e .0 f .1)
     go (isCall m) = refl
     go (isSend m) = refl
 
 rule-now : (s : List Actor) (a : ℕ) (A : Actor) (e : Term) → ruleBy sendRule s a A e ≡ rule s a A e
-unfolding ruleBy rule
-rule-now s a A (val v) = refl
-rule-now s a A (var x) = refl
-rule-now s a A (op o es) = operate-now s a A o (valuesOf es) es
-rule-now s a A (letIn x e d) = refl
-rule-now s a A (future x y e) = refl
-rule-now s a A (literal k fs ms) = refl
+rule-now s a A e = each-rule (operateBy sendRule) present (λ e r u. r ≡ u) s a A (λ e r. refl) (operate-now s a A) e ∙ rule-present s a A e
 
 pub send-now : (B : Bounds) (σ : State) (a : ℕ) → moveBy (ruleBy sendRule) B σ a ≡ moveWithin B σ a
 send-now B σ a = redex-agrees (ruleBy sendRule) B σ a λ A h. rule-now (σ .actors) a A (redex (A .expr))
@@ -135,8 +119,8 @@ send-was s a A (num n) resolve vs = same refl
 send-was s a A (num n) register vs = same refl
 send-was s a A (ref b r n) m vs = same refl
 
-operate-was : (s : List Actor) (a : ℕ) (A : Actor) (es : Terms) {o : Op Name} → Row o → Was (RegistersNull (op o es)) (operateBy sendBefore s a A o (valuesOf es) es) (operateBy sendRule s a A o (valuesOf es) es)
-unfolding operateBy bySend receiverOf
+operate-was : (s : List Actor) (a : ℕ) (A : Actor) (es : Terms) {o : Op Name} → Row o → Was (RegistersNull (op o es)) (operateBy sendBefore s a A o es) (operateBy sendRule s a A o es)
+unfolding operateBy byMessage receiverOf
 operate-was s a A es (isBare o n e f w) = rw (e .1) (same refl)
 operate-was s a A es (isField c k n e f i w) = rw (e .0 f .1) (same refl)
 operate-was s a A es (isCall m) = same refl
@@ -147,13 +131,7 @@ operate-was s a A es (isSend m) = go (valuesOf es) refl
     go (v ∷ us) e = was-where (sendBefore s a A v m us) (sendRule s a A v m us) (λ p. record { parts = es; others = us; is = ap (λ k. op (send k) es) (p .1); first = e ∙ ap (λ x. x ∷ us) (p .0) }) (send-was s a A v m us)
 
 rule-was : (s : List Actor) (a : ℕ) (A : Actor) (e : Term) → Was (RegistersNull e) (ruleBy sendBefore s a A e) (ruleBy sendRule s a A e)
-unfolding ruleBy
-rule-was s a A (val v) = same refl
-rule-was s a A (var x) = same refl
-rule-was s a A (op o es) = operate-was s a A es (row o)
-rule-was s a A (letIn x e d) = same refl
-rule-was s a A (future x y e) = same refl
-rule-was s a A (literal k fs ms) = same refl
+rule-was s a A e = each-rule (operateBy sendBefore) (operateBy sendRule) (λ e. Was (RegistersNull e)) s a A (λ e r. same refl) (λ o es. operate-was s a A es (row o)) e
 
 -- ---- the move
 module _ (B : Bounds) (σ : State) (a : ℕ) where
