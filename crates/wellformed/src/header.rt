@@ -5,7 +5,7 @@
 // with three.
 ghost use mathlib.Core.Path.{_≡_};
 ghost use mathlib.Core.Bool.{_&&_};
-ghost use Prim.Native.Nat.{_+_, _*_, _≤_, _<_, _/_, _%_};
+ghost use Prim.Native.Nat.{_≤_, _/_, _%_};
 ghost use lib.Dec.{leb};
 ghost use Rattle.atlite.specs.Valid.{parameters};
 ghost use Rattle.layout.specs.Numbers.{taggedLimit, digitLimit};
