@@ -6,7 +6,7 @@
 use Prim.Native.Nat.{ℕ}
 use mathlib.Core.Path.{_≡_, refl, sym, ap, ap₂, _∙_, fun-ext}
 use mathlib.Core.Bool.{Bool, true, false, _&&_, not}
-use mathlib.Core.List.{List, []}
+use mathlib.Core.List.{List, [], _++_}
 use mathlib.Core.Logic.{_⊎_, inl, inr, ⊎-elim}
 use lib.ListN.{length}
 use lib.Dec.{eqb, leb, ltb}
@@ -19,10 +19,14 @@ use Rattle.atlite.specs.Lexicon.{Bytes, wordsOf, dictionary}
 use Rattle.atlite.specs.Script.{Src, num, null, var, op, letIn, future, fn, when, literal, Srcs, nil, cons, SrcFields, noField, field, SrcMethods, noMethod, method, size, join}
 use Rattle.atlite.specs.Scope.{bound, fieldNames, signatures, single, singleAll, singleFields, singleMethods}
 use Rattle.atlite.specs.Reader.{depth, readScript}
-use Rattle.atlite.specs.Table.{Table, read}
+use Rattle.atlite.specs.Table.{Table, read, IsTable}
 use Rattle.atlite.specs.Load.{load}
 use Rattle.atlite.specs.Run.{run}
 use Rattle.atlite.specs.Replay as P
+use Rattle.reading.specs.Exact.{read-table}
+use Rattle.layout.specs.Tables.{encodeTable}
+use Rattle.layout.specs.Meaning.{tableIn}
+use Rattle.layout.specs.MeaningLaws.{table-lent}
 use Rattle.changes.specs.MoveBy.{runBy}
 use Rattle.changes.specs.ThroughoutLoads.{AnyWritten, ThroughoutSrc, ThroughoutSrcs, ThroughoutFields, ThroughoutWritten, lines-throughout}
 use Rattle.changes.specs.NamesOnce.{names, Once, once-distinct, OnceTable, ruleBefore, script-as-before}
@@ -174,6 +178,13 @@ once-read t = checked 1 _ λ _. given (readScript operators t) λ ls _. every-bi
 -- So what the former reader takes, the reader takes, to the same table, which has no method's name twice,
 pub read-as-before : (t : Bytes) (T : Table) → readBefore t ≡ done T → (read operators t ≡ done T) × OnceTable T
 read-as-before t T e = (⊎-elim (λ q. sym q ∙ e) (λ q. absurd (refused-done (sym q ∙ e))) (read-was t), every-done (once-read t) e)
+
+-- what was a table is one still, and its words are lent as they were,
+pub table-still : (t : Bytes) (T : Table) → readBefore t ≡ done T → IsTable T
+table-still t T e = read-table t T (read-as-before t T e .0)
+
+pub table-lent-still : (t : Bytes) (T : Table) (r : List ℕ) → readBefore t ≡ done T → tableIn (encodeTable T ++ r) ≡ done T
+table-lent-still t T r e = table-lent T r (table-still t T e)
 
 -- and the script runs as it did.
 pub text-as-before : (t : Bytes) (T : Table) (σ : State) (es : List ℕ) → readBefore t ≡ done T → load T ≡ done σ → runBy ruleBefore σ es ≡ run σ es
