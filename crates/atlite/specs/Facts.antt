@@ -1,6 +1,6 @@
 -- Facts about the tests, lists and results of `Base` that laws everywhere use. Nothing here has to be believed. Assumes nothing.
 use mathlib.Core.Path.{_≡_, refl, sym, ap, ap₂, _∙_, subst as transp}
-use mathlib.Core.Bool.{Bool, true, false, false≢true, _&&_, _||_}
+use mathlib.Core.Bool.{Bool, true, false, false≢true, _&&_, _||_, not}
 use mathlib.Core.Option.{Option, none, some}
 use mathlib.Core.List.{List, [], _∷_, _++_}
 use Prim.Native.Nat.{ℕ, zero, suc, _≤_, _<_}
@@ -32,6 +32,10 @@ both₃ h k l = both₂ (both₂ h k) l
 
 pub both₄ : {a b c d : Bool} → a ≡ true → b ≡ true → c ≡ true → d ≡ true → (a && b && c && d) ≡ true
 both₄ h k l m = both₂ (both₃ h k l) m
+
+pub not-true : (b : Bool) → not b ≡ true → b ≡ false
+not-true true h = absurd (false≢true h)
+not-true false h = refl
 
 pub or-false : (a b : Bool) → (a || b) ≡ false → (a ≡ false) × (b ≡ false)
 or-false true b h = absurd (false≢true (sym h))
@@ -108,6 +112,11 @@ pub data Every {A : Type 0} (Q : A → Type 0) : Result A → Type 0 where
 pub every-done : {A : Type 0} {Q : A → Type 0} {r : Result A} {x : A} → Every Q r → r ≡ done x → Q x
 every-done {Q} {x} (holds {a} h) e = let u : a ≡ x = cc in transp Q u h
 every-done nothing e = absurd (refused-done e)
+
+-- what is so of whatever a result may be
+pub every-of : {A : Type 0} {Q : A → Type 0} (r : Result A) → ((x : A) → r ≡ done x → Q x) → Every Q r
+every-of (done x) k = holds (k x refl)
+every-of (refused n) k = nothing
 
 pub every-weaken : {A : Type 0} {P Q : A → Type 0} {r : Result A} → Every P r → ((a : A) → P a → Q a) → Every Q r
 every-weaken (holds {a} p) k = holds (k a p)

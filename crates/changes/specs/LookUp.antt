@@ -9,7 +9,7 @@ use lib.ListN.{length}
 use lib.Dec.{eqb}
 use borrow.Author.Tests.{eqb-true}
 use Rattle.atlite.specs.Base.{done, refused, any, distinctBy, if_then_else_}
-use Rattle.atlite.specs.Facts.{and₂, both₂, eqb-same}
+use Rattle.atlite.specs.Facts.{and₂, both₂, not-true, eqb-same}
 use Rattle.atlite.specs.Term.{this, Value, null, plain, twoWay, call, Term, val, op, Methods, noMethod, method, Signature, sameSignature, signatures, values, valueOf, valuesOf}
 use Rattle.atlite.specs.Subst.{subst, substParams}
 use Rattle.atlite.specs.State.{Actor}
@@ -25,10 +25,6 @@ same-signature : (s : Signature) → sameSignature s s ≡ true
 same-signature (k, i) = both₂ (eqb-same k) (eqb-same i)
 
 -- what is not so fails
-pub not-true : (b : Bool) → not b ≡ true → b ≡ false
-not-true true h = absurd (false≢true h)
-not-true false h = refl
-
 -- whether a list of methods has one with the name and the count
 abbrev pub knows : Methods → Signature → Bool
 knows M s = any (sameSignature s) (signatures M)

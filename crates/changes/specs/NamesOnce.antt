@@ -11,7 +11,7 @@ use lib.ListN.{length}
 use lib.Dec.{eqb}
 use borrow.Author.Tests.{eqb-true}
 use Rattle.atlite.specs.Base.{Result, done, refused, _>>=_, _>>_, require, any, distinct, distinctBy, member, if_then_else_}
-use Rattle.atlite.specs.Facts.{and₂, both₂, Every, holds, nothing, every-weaken}
+use Rattle.atlite.specs.Facts.{and₂, both₂, not-true, Every, holds, nothing, every-of, every-weaken}
 use Rattle.atlite.specs.Term.{this, ·t, ·x, apply, Value, null, Name, plain, twoWay, resolve, register, Op, shape, Term, val, var, Terms, Methods, noMethod, method, Signature, sameSignature, signatures, valuesOf}
 use Rattle.atlite.specs.Subst.{Subst, subst, substParams}
 use Rattle.atlite.specs.State.{Actor, State}
@@ -29,7 +29,7 @@ use Rattle.changes.specs.MoveBy.{Rule, moveBy, runBy, moveCallBy, runCal
 use Rattle.changes.specs.Throughout.{Allows, AnyOperator}
 use Rattle.changes.specs.ThroughoutMoves.{ThroughoutActor, ThroughoutState, all-at, own-throughout, methods-throughout, move-throughout}
 use Rattle.changes.specs.ThroughoutLoads.{AnyWritten, ThroughoutTable, load-throughout}
-use Rattle.changes.specs.LookUp.{not-true, invoke-none}
+use Rattle.changes.specs.LookUp.{invoke-none}
 
 -- ---- the look-up before the request: by the name alone, and then the number of arguments had to be right
 abbrev pub LookUp : Type 0
@@ -100,14 +100,10 @@ module _ (I : LookUp) (s : List Actor) (a : ℕ) (A : Actor) (h : Finds I a A) w
   rule-same : (e : Term) → ruleBy I s a A e ≡ rule s a A e
   rule-same e = each-rule (operateBy I) present (λ e r u. r ≡ u) s a A (λ e r. refl) (λ o es. operate-same es (row o)) e ∙ rule-present s a A e
 
-anyway : {X : Type 0} {P : X → Type 0} (r : Result X) → ((x : X) → P x) → Every P r
-anyway (done x) k = holds (k x)
-anyway (refused n) k = nothing
-
 -- so by the present look-up it is the present rule
 pub look-up-now : (B : Bounds) (σ : State) (a : ℕ) → moveBy (ruleBy invoke) B σ a ≡ moveWithin B σ a
 look-up-now B σ a = redex-agrees (ruleBy invoke) B σ a λ A _.
-    rule-same invoke (σ .actors) a A (λ v. anyway (own a A v) λ o. anyway (methodsOf o) λ M m vs. refl) (redex (A .expr))
+    rule-same invoke (σ .actors) a A (λ v. every-of (own a A v) λ o _. every-of (methodsOf o) λ M _ m vs. refl) (redex (A .expr))
 
 -- ---- lists of methods that have no name twice
 abbrev pub names : List Signature → List ℕ

@@ -1,14 +1,14 @@
 -- States in all of whose terms and methods something holds, as `Throughout` says it of a term: each move and each run leaves such a state, where
 -- the operators and lists of methods that the rules form are allowed. Assumes nothing.
 use Prim.Native.Nat.{ℕ, zero, suc, _+_, _*_, _/_}
-use mathlib.Core.Path.{_≡_, refl, subst as transp}
+use mathlib.Core.Path.{_≡_, subst as transp}
 use mathlib.Core.Bool.{not}
 use mathlib.Core.List.{List, [], _∷_, _++_, map}
 use mathlib.Core.Option.{none, some}
 use lib.ListN.{length, getElem?, set as setAt}
 use lib.Dec.{eqb, leb, ltb}
-use Rattle.atlite.specs.Base.{Result, done, refused, orRefuse, if_then_else_}
-use Rattle.atlite.specs.Facts.{none-some, Every, holds, nothing, every-done, every-bind, given, checked, every-found, every-if, found}
+use Rattle.atlite.specs.Base.{orRefuse, if_then_else_}
+use Rattle.atlite.specs.Facts.{none-some, Every, holds, nothing, every-done, every-of, every-bind, given, checked, every-found, every-if, found}
 use Rattle.atlite.specs.Term.{top, Series, made, copied, Value, null, num, ref, Name, plain, twoWay, resolve, register, Op, plus, percent, same, choose, get, set, call, send, Kind, isolate, actor, Term, val, var, op, letIn, literal, Terms, Inits, Methods, Signature, valuesOf, isValue}
 use Rattle.atlite.specs.Subst.{subst}
 use Rattle.atlite.specs.State.{Message, message, Field, Tag, O, I, Entity, object, future, resolver, Actor, State, withExpr, withInbox, withMade, withCopied, counted, entityOf, withEntity, fieldOf, withField, sameValue}
@@ -44,11 +44,6 @@ all-change Q f (suc n) (x ∷ l) k h = (h .0, all-change Q f n l k (h .1))
 all-map : {X Y : Type 0} (P : X → Type 0) (Q : Y → Type 0) (f : X → Y) (l : List X) → ((x : X) → P x → Q (f x)) → All P l → All Q (map f l)
 all-map P Q f [] k h = tt
 all-map P Q f (x ∷ l) k h = (k x (h .0), all-map P Q f l k (h .1))
-
--- what is so of whatever a result may be
-every-of : {X : Type 0} {Q : X → Type 0} (r : Result X) → ((x : X) → r ≡ done x → Q x) → Every Q r
-every-of (done x) k = holds (k x refl)
-every-of (refused n) k = nothing
 
 module _ (Q : Op Name → Type 0) (L : List Signature → Type 0) where
   -- ---- states; fields and messages hold values alone

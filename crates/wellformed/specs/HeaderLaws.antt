@@ -13,12 +13,11 @@ use Rattle.atlite.specs.Valid.{isName, isVariable, fewDistinct, parameters}
 use Rattle.atlite.specs.Facts.{and₂}
 use Rattle.layout.specs.Numbers.{payload, fieldKind, methodUnit, nameLimit, noName, tagLimit, taggedLimit, secondPlace, thirdPlace, digitLimit}
 use Rattle.layout.specs.Parse.{fieldAt, placesIn, paramsAt, named, methodAt}
-use Rattle.layout.specs.ParseWords.{Holding, MethodIs, method-word}
-use Rattle.layout.specs.Signatures.{header-signed}
+use Rattle.layout.specs.ParseWords.{Holding}
 use Rattle.layout.specs.LastThree.{fresh}
 use Rattle.wellformed.specs.Words.{within}
 use Rattle.wellformed.specs.Ends.{isNew, Met, fieldHead, FieldHeader, two, third, empty, sign, methodHead, MethodHeader}
-use Rattle.wellformed.specs.NameLaws.{name-below, name-above, variable-below, met-fresh}
+use Rattle.wellformed.specs.NameLaws.{name-below, name-above, variable-below, signed-word, met-fresh}
 
 -- ---- places
 module _ (c x y : ℕ) (o : Bool) (e : o ≡ isVariable c x) where
@@ -245,21 +244,13 @@ pub ruleset field-laws = (needs, field-other, field-unnamed, field-named)
 
 -- ---- methods
 module _ (c h N : ℕ) where
-  -- the header's signature is its lowest digits
-  signed-word : Holding (λ q. sign (q .0) (q .1) ≡ h % taggedLimit) (methodAt h)
-  signed-word = go (methodAt h) (method-word h)
-    where
-      go : (o : Option (ℕ × List ℕ)) → Holding (λ q. MethodIs (q .0) (q .1) h) o → Holding (λ q. sign (q .0) (q .1) ≡ h % taggedLimit) o
-      go none i = tt
-      go (some q) i = sym (ap (λ k. k % taggedLimit) (sym (i .3)) ∙ header-signed (q .0) (q .1) (omega (arith, i .0)) (i .2))
-
-  -- so the header is tested by them
+  -- the header is tested by its lowest digits, which are its signature
   abbrev tested : List ℕ → ℕ × List ℕ → Bool
   tested ns q = isNew c ns (q .0) (h % taggedLimit) && parameters c (q .1)
 
   head-signed : (ns : List ℕ) → within (methodHead c ns) (methodAt h) ≡ within (tested ns) (methodAt h)
   unfolding within methodHead
-  head-signed ns = go (methodAt h) signed-word
+  head-signed ns = go (methodAt h) (signed-word h)
     where
       go : (o : Option (ℕ × List ℕ)) → Holding (λ q. sign (q .0) (q .1) ≡ h % taggedLimit) o → within (methodHead c ns) o ≡ within (tested ns) o
       go none i = refl

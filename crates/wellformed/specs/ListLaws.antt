@@ -14,14 +14,13 @@ use Rattle.atlite.specs.Term.{Value, Term, cons, Inits, Methods, method}
 use Rattle.atlite.specs.ValidTest.{wellFormed, wellFormedAll}
 use Rattle.layout.specs.Numbers.{payload, taggedLimit, bodiesSize}
 use Rattle.layout.specs.Parse.{pair, headAt, fieldAt, methodAt, termsBy, initsBy, methodsBy, parseTerms, parseInits, parseMethods}
-use Rattle.layout.specs.ParseWords.{holding, field-word, method-word}
+use Rattle.layout.specs.ParseWords.{holding, field-word}
 use Rattle.layout.specs.ParseLaws.{parse, parse-step}
-use Rattle.layout.specs.Signatures.{header-signed}
 use Rattle.layout.specs.LastThree.{noted}
 use Rattle.checks.specs.Bound.{Kept}
 use Rattle.wellformed.specs.Ends.{endOf, Scope, bound, Met, fieldHead, sign, FieldHeader, methodHead, MethodHeader, fieldsWell, methodsWell, termsEnd, Leaf, Closed, Operands, TermEnds, Left, FieldsEnd, MethodsEnd, FormEnds}
 use Rattle.wellformed.specs.ScopeLaws.{method-bound}
-use Rattle.wellformed.specs.NameLaws.{met-noted}
+use Rattle.wellformed.specs.NameLaws.{signed-word, met-noted}
 use Rattle.wellformed.specs.EndLaws.{ends-pair, headed, headed-none, terms-nowhere, fields-nowhere, methods-nowhere, parse-past, fields-past, methods-past}
 use Rattle.wellformed.specs.ShapeLaws.{one-term}
 
@@ -180,10 +179,8 @@ module _ (c : ℕ) (p : Value → Bool) (F : List ℕ) (g : ℕ) (w : List ℕ) 
               → r ≡ endOf (methodsWell c p xs ns) (pair (headed-method q) (parse w (at + 1)) (λ i. parseMethods (length w) w n i))
           rest n t j q f k =
               let d = holding _ (methodAt (getD w at 0)) q (method-bound F g xs s (getD w at 0)) f in
-              let i₁ = holding _ (methodAt (getD w at 0)) q (method-word (getD w at 0)) f in
-              let y : sign (q .0) (q .1) < taggedLimit = omega (arith, i₁ .0, i₁ .2) in
-              let e₁ : getD w at 0 % taggedLimit ≡ sign (q .0) (q .1) = ap (λ k. k % taggedLimit) (sym (i₁ .3)) ∙ header-signed (q .0) (q .1) (omega (arith, i₁ .0)) (i₁ .2) in
-              let x : Met M n (sign (q .0) (q .1) ∷ ns) = rw (m ∙ ap (noted taggedLimit N) e₁) (met-noted N n (sign (q .0) (q .1)) ns y t) in
+              let y = holding _ (methodAt (getD w at 0)) q (signed-word (getD w at 0)) f in
+              let x : Met M n (sign (q .0) (q .1) ∷ ns) = rw (m ∙ ap (noted taggedLimit N) (sym y)) (met-noted N n (sign (q .0) (q .1)) ns (omega (arith, y)) t) in
               j xs (sign (q .0) (q .1) ∷ ns) (rw v s) x
               ∙ rw (i (q .1 ++ xs) (d .2))
               (ends-pair (headed-method q) (methodsWell c p xs ns) (wellFormed c p (q .1 ++ xs)) (methodsWell c p xs (sign (q .0) (q .1) ∷ ns)) (parse w (at + 1)) (λ i. parseMethods (length w) w n i)

@@ -1,6 +1,6 @@
 -- The laws of literals: that their names are new one after another says that they are different, and the ways to return. Assumes
 -- nothing.
-use Prim.Native.Nat.{ℕ, suc, _/_, _%_, _≤_, _<_}
+use Prim.Native.Nat.{ℕ, _/_, _%_, _≤_, _<_}
 use mathlib.Core.Path.{_≡_, refl, sym, ap, _∙_}
 use mathlib.Core.Bool.{Bool, true, false, _&&_, not, true≢false, and-false}
 use mathlib.Core.List.{List, [], _∷_, _++_, map}
@@ -20,7 +20,7 @@ use Rattle.layout.specs.Parse.{parts, formed, parseInits, parseMethods}
 use Rattle.layout.specs.ParseSound.{inits-sound, methods-sound}
 use Rattle.layout.specs.ParseLaws.{parse}
 use Rattle.checks.specs.Bound.{Swapped, Kept}
-use Rattle.layout.specs.Fitting.{each-all}
+use Rattle.layout.specs.Fitting.{each-all, count-inits, count-methods}
 use Rattle.layout.specs.Signatures.{signed, Below, signed-distinct}
 use Rattle.layout.specs.LastThree.{distinctFrom, from-none}
 use Rattle.wellformed.specs.Kinds.{allowed}
@@ -73,16 +73,6 @@ module _ (c : ℕ) (p : Value → Bool) (xs : List ℕ) where
       turn false false b a d l w = refl
 
 -- ---- at most four names
-field-count : (fs : Inits) → length (initNames fs) ≡ countInits fs
-unfolding initNames countInits
-field-count noField = refl
-field-count (Inits.field f e fs) = ap suc (field-count fs)
-
-method-count : (ms : Methods) → length (signatures ms) ≡ countMethods ms
-unfolding signatures countMethods
-method-count noMethod = refl
-method-count (method m ys e ms) = ap suc (method-count ms)
-
 list-few : {X : Type 0} (e : X → X → Bool) (q : X → Bool) (n : ℕ) (xs : List X) → length xs ≡ n → n ≤ 4 → fewDistinct 4 e q xs ≡ distinctBy e xs && all q xs
 unfolding fewDistinct
 list-few e q n xs i l = rw (i, le-leb n 4 l)
@@ -97,13 +87,13 @@ names-signed c ss l h = from-none (map (signed nameLimit) ss) ∙ signed-distinc
 
 module _ (c : ℕ) (p : Value → Bool) (xs : List ℕ) where
   pub fields-named : (fs : Inits) → countInits fs ≤ 4 → fieldsWell c p xs [] fs ≡ fieldsNamed c (initNames fs) && wellFormedInits c p xs fs
-  fields-named fs l = fields-split c p xs [] fs ∙ rw (from-none (initNames fs), list-few eqb (isName c) (countInits fs) (initNames fs) (field-count fs) l)
+  fields-named fs l = fields-split c p xs [] fs ∙ rw (from-none (initNames fs), list-few eqb (isName c) (countInits fs) (initNames fs) (sym (count-inits fs)) l)
 
   -- where a method has no name, both sides are false, whatever the numbers are
   pub methods-named : (ms : Methods) → c ≤ 64 → countMethods ms ≤ 4 → methodsWell c p xs [] ms ≡ methodsNamed c (signatures ms) && wellFormedMethods c p xs ms
   methods-named ms f l =
       let q : Signature → Bool = λ s. isName c (s .0) in
-      methods-split c p xs [] ms ∙ ap (λ b. b && wellFormedMethods c p xs ms) (go (all q (signatures ms)) refl ∙ sym (list-few sameSignature q (countMethods ms) (signatures ms) (method-count ms) l))
+      methods-split c p xs [] ms ∙ ap (λ b. b && wellFormedMethods c p xs ms) (go (all q (signatures ms)) refl ∙ sym (list-few sameSignature q (countMethods ms) (signatures ms) (sym (count-methods ms)) l))
     where
       go : (b : Bool) → all (λ s. isName c (s .0)) (signatures ms) ≡ b
           → distinctFrom [] (map (signed nameLimit) (signatures ms)) && all (λ s. isName c (s .0)) (signatures ms) ≡ distinctBy sameSignature (signatures ms) && all (λ s. isName c (s .0)) (signatures ms)
@@ -137,8 +127,8 @@ module _ (c : ℕ) (p : Value → Bool) (xs : List ℕ) where
       go : (a b : Bool) → leb (countInits fs) 4 ≡ a → leb (countMethods ms) 4 ≡ b → a && b ≡ false
           → fieldsNamed c (initNames fs) && methodsNamed c (signatures ms) && wellFormedInits c (held t p) (this ∷ seen t xs) fs && wellFormedMethods c (held t p) (this ∷ seen t xs) ms ≡ false
       go true true i j h = absurd (true≢false h)
-      go true false i j h = rw (list-many sameSignature (λ s. isName c (s .0)) (countMethods ms) (signatures ms) (method-count ms) j) (none (fieldsNamed c (initNames fs)) _ _)
-      go false b i j h = rw (list-many eqb (isName c) (countInits fs) (initNames fs) (field-count fs) i)
+      go true false i j h = rw (list-many sameSignature (λ s. isName c (s .0)) (countMethods ms) (signatures ms) (sym (count-methods ms)) j) (none (fieldsNamed c (initNames fs)) _ _)
+      go false b i j h = rw (list-many eqb (isName c) (countInits fs) (initNames fs) (sym (count-inits fs)) i)
 
 -- ---- the ways to return
 module _ (c h : ℕ) (F : List ℕ) (g : ℕ) (w : List ℕ) (at : ℕ) (o : Bool) (e : o ≡ leb (h % payload % digitLimit) 4 && leb (h % payload / digitLimit) 4) where
@@ -180,7 +170,7 @@ module _ (c : ℕ) (p : Value → Bool) (w : List ℕ) (n at : ℕ) where
   unfolding methodsHold
   methods-many l =
       ends-none (methodsHold c p) (parseMethods (length w) w n at)
-      (λ ms i g. rw (list-many sameSignature (λ s. isName c (s .0)) n (signatures ms) (method-count ms ∙ methods-sound (length w) w n at ms i g .1) (lt-leb n 4 l)))
+      (λ ms i g. rw (list-many sameSignature (λ s. isName c (s .0)) n (signatures ms) (sym (count-methods ms) ∙ methods-sound (length w) w n at ms i g .1) (lt-leb n 4 l)))
 
   pub methods-held : (r : ℕ) → c ≤ 64 → n ≤ 4 → MethodsEnd c p (set (replicate nameLimit 0) 0 1) 1 w 0 n at r → r ≡ endOf (methodsHold c p) (parseMethods (length w) w n at)
   unfolding methodsHold MethodsEnd

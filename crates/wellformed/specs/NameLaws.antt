@@ -1,8 +1,9 @@
 -- Names and variables in range, and signatures that are new behind others, which stand in one number. Assumes nothing.
 use Prim.Native.Nat.{ℕ, suc, _+_, _*_, _/_, _%_, _≤_, _<_}
-use mathlib.Core.Path.{_≡_, refl, ap, _∙_}
+use mathlib.Core.Path.{_≡_, refl, sym, ap, _∙_}
 use mathlib.Core.Bool.{true, not}
 use mathlib.Core.List.{List, [], _∷_}
+use mathlib.Core.Option.{Option, none, some}
 use native.Mathlib.Omega.{arith}
 use borrow.Author.Needs.{needs}
 use borrow.Author.Tests.{ltb-true, leb-true}
@@ -11,8 +12,11 @@ use Rattle.atlite.specs.Base.{if_then_else_, member}
 use Rattle.atlite.specs.Valid.{isName, isVariable}
 use Rattle.atlite.specs.Facts.{and₂}
 use Rattle.layout.specs.Numbers.{noName, taggedLimit}
+use Rattle.layout.specs.Parse.{methodAt}
+use Rattle.layout.specs.ParseWords.{Holding, MethodIs, method-word}
+use Rattle.layout.specs.Signatures.{header-signed}
 use Rattle.layout.specs.LastThree.{kept, fresh, noted, fresh-first, fresh-second, fresh-third, fresh-yes, room, kept-fresh, kept-noted}
-use Rattle.wellformed.specs.Ends.{Met}
+use Rattle.wellformed.specs.Ends.{sign, Met}
 
 -- ---- in range
 pub name-below : (c x : ℕ) → c ≤ 64 → isName c x ≡ true → x < noName
@@ -22,6 +26,15 @@ name-below c x l e = omega (arith, ltb-true x (8 + c) (and₂ (leb 7 x) (ltb x (
 pub variable-below : (c x : ℕ) → c ≤ 64 → isVariable c x ≡ true → x < noName
 unfolding isVariable
 variable-below c x l e = omega (arith, ltb-true x (8 + c) (and₂ (ltb 0 x) (ltb x (8 + c)) e .1))
+
+-- ---- signatures
+-- a header's signature is its lowest digits
+pub signed-word : (h : ℕ) → Holding (λ q. sign (q .0) (q .1) ≡ h % taggedLimit) (methodAt h)
+signed-word h = go (methodAt h) (method-word h)
+  where
+    go : (o : Option (ℕ × List ℕ)) → Holding (λ q. MethodIs (q .0) (q .1) h) o → Holding (λ q. sign (q .0) (q .1) ≡ h % taggedLimit) o
+    go none i = tt
+    go (some q) i = sym (header-signed (q .0) (q .1) (omega (arith, i .0)) (i .2)) ∙ ap (λ k. k % taggedLimit) (i .3)
 
 -- ---- signatures before others
 pub name-above : (c x : ℕ) → isName c x ≡ true → 7 ≤ x
