@@ -6,13 +6,13 @@ use mathlib.Core.List.{List, [], _∷_}
 use native.Mathlib.Omega.{arith}
 use lib.ListN.{length}
 use Rattle.atlite.specs.Term.{this, Value, signatures}
-use Rattle.atlite.specs.State.{Tag, O, I}
+use Rattle.atlite.specs.State.{Tag, shared, isolated}
 use Rattle.atlite.specs.Valid.{methodsNamed, HeldBy, unreferring}
-use Rattle.atlite.specs.ValidTest.{wellFormed, wellFormedMethods}
-use Rattle.atlite.specs.Facts.{and₂, both₂}
+use Rattle.decoding.specs.ValidTest.{wellFormed, wellFormedMethods}
+use Rattle.atlite_laws.specs.Facts.{and₂, both₂}
 use Rattle.invariant.specs.TermTests.{Is, wf-to, wf-from, methods-to, methods-from}
-use Rattle.layout.specs.Parse.{got, parseMethods}
-use Rattle.layout.specs.ParseLaws.{parse, parse-iff, methods-iff}
+use Rattle.layout_laws.specs.Parse.{got, parseMethods}
+use Rattle.layout_laws.specs.ParseLaws.{parse, parse-iff, methods-iff}
 use Rattle.wellformed.specs.Kinds.{allowed}
 use Rattle.wellformed.specs.Words.{holds}
 use Rattle.wellformed.specs.Ends.{endOf, methodsHold}
@@ -40,13 +40,13 @@ module _ (K : List ℕ) (a W : ℕ) (w B : List ℕ) (few : W ≤ 64) where
         ends-got (methodsHold W p) (parseMethods (length B) B m b) M e g (both₂ n (methods-from M W p (this ∷ []) (rw (← same) at k)));
   }
 
-  pub judges-objects : Judges K a W w B few O (methodsReach true K a W B)
+  pub judges-objects : Judges K a W w B few shared (methodsReach true K a W B)
   unfolding methodsReach holds
-  judges-objects = judge O (allowed K a) refl
+  judges-objects = judge shared (allowed K a) refl
 
-  pub judges-isolates : Judges K a W w B few I (methodsReach false K a W B)
+  pub judges-isolates : Judges K a W w B few isolated (methodsReach false K a W B)
   unfolding methodsReach holds
-  judges-isolates = judge I unreferring refl
+  judges-isolates = judge isolated unreferring refl
 
 pub ends-expression : (K : List ℕ) (a W : ℕ) (R : List ℕ) → Ends K a W R (exprReach K a W R)
 unfolding exprReach

@@ -9,22 +9,22 @@ use lib.ListN.{length, take, drop, getD, length-append}
 use lib.Seq.{slice}
 use Rattle.atlite.specs.Base.{sum}
 use Rattle.atlite.specs.Term.{Value, nodes, top}
-use Rattle.atlite.specs.State.{O, I, Entity, Actor, isIsolate}
+use Rattle.atlite.specs.State.{shared, isolated, Entity, Actor, isIsolate}
 use Rattle.atlite.specs.Limits.{bodyNodes}
 use Rattle.atlite.specs.Valid.{IsEntity, IsActor}
-use Rattle.atlite.specs.Facts.{both₂, both₃, both₄}
+use Rattle.atlite_laws.specs.Facts.{both₂, both₃, both₄}
 use Rattle.invariant.specs.TermTests.{Is}
 use Rattle.layout.specs.Numbers.{ownerLimit, exprAt, exprSize, messageSize, queueSize, inboxAt, waitingAt, slotSize, madeSize, copiedSize, madeAt, copiedAt, bodiesSize, bodiesAt, restSize}
 use Rattle.layout.specs.Pack.{zeros, pad, flat}
-use Rattle.layout.specs.PackLaws.{pad-front}
+use Rattle.layout_laws.specs.PackLaws.{pad-front}
 use Rattle.layout.specs.Terms.{encodeTerm}
 use Rattle.layout.specs.Layout.{encodeMessage, slots, bodies, queues, encodeActor}
-use Rattle.layout.specs.Slots.{slots-length, queues-fit}
-use Rattle.layout.specs.Parts.{ActorFits, messages-length, fromCounts, fromCopied, fromBodies, counts, regions, from-expr, from-inbox, from-waiting, from-made, from-copied, from-bodies}
-use Rattle.layout.specs.StateFits.{WithinActor, within-to}
-use Rattle.layout.specs.Arity.{nodesIn, nodes-append, term-nodes, bodies-nodes}
-use Rattle.layout.specs.Parse.{zerosAt}
-use Rattle.layout.specs.Spans.{Spans}
+use Rattle.layout_laws.specs.Slots.{slots-length, queues-fit}
+use Rattle.layout_laws.specs.Parts.{ActorFits, messages-length, fromCounts, fromCopied, fromBodies, counts, regions, from-expr, from-inbox, from-waiting, from-made, from-copied, from-bodies}
+use Rattle.layout_laws.specs.StateFits.{WithinActor, within-to}
+use Rattle.layout_laws.specs.Arity.{nodesIn, nodes-append, term-nodes, bodies-nodes}
+use Rattle.layout_laws.specs.Parse.{zerosAt}
+use Rattle.layout_laws.specs.Spans.{Spans}
 use Rattle.wellformed.specs.Kinds.{allowed, futureBy}
 use Rattle.actor.specs.Tests.{madeEnd, copiedEnd, slotsEnd, countsHold, headHolds, exprHolds, inboxHolds, waitingHolds, madeReached, copiedReached, madeHolds, copiedHolds, bodiesHold, endHolds, heapHolds, restHolds, partHolds}
 use Rattle.actor.specs.Messages.{inbox-complete, waiting-complete}
@@ -137,7 +137,7 @@ module _ (K : List ℕ) (a W : ℕ) (w : List ℕ) (few : W ≤ 64) (l : a < own
         rw (word4, word1) (both₂ (waiting-complete K a W w l M m 0 waitingAt _ (omega (arith, fits .madeCount)) (z .0) f o) t)
 
     -- ---- both series
-    module _ (f g : ℕ → ℕ → ℕ) (jf : Judges K a W w (take bodiesSize (drop bodiesAt w)) few O f) (jg : Judges K a W w (take bodiesSize (drop bodiesAt w)) few I g) where
+    module _ (f g : ℕ → ℕ → ℕ) (jf : Judges K a W w (take bodiesSize (drop bodiesAt w)) few shared f) (jg : Judges K a W w (take bodiesSize (drop bodiesAt w)) few isolated g) where
       abbrev B : List ℕ
       B = take bodiesSize (drop bodiesAt w)
 
@@ -210,7 +210,7 @@ module _ (K : List ℕ) (a W : ℕ) (w : List ℕ) (few : W ≤ 64) (l : a < own
       unfolding heapHolds endHolds
       heap-complete = both₂ made-holds (both₂ copied-holds bodies-hold)
 
-  pub part-complete : (f g : ℕ → ℕ → ℕ) (e : ℕ) → Judges K a W w (take bodiesSize (drop bodiesAt w)) few O f → Judges K a W w (take bodiesSize (drop bodiesAt w)) few I g → Ends K a W (take exprSize (drop exprAt w)) e
+  pub part-complete : (f g : ℕ → ℕ → ℕ) (e : ℕ) → Judges K a W w (take bodiesSize (drop bodiesAt w)) few shared f → Judges K a W w (take bodiesSize (drop bodiesAt w)) few isolated g → Ends K a W (take exprSize (drop exprAt w)) e
       → IsPart K a W w → partHolds w K a W f g e ≡ true
   unfolding IsPart partHolds restHolds
   part-complete f g e jf jg je p =

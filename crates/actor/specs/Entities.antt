@@ -11,18 +11,18 @@ use borrow.Author.Tests.{eqb-true, ltb-true, eq-eqb}
 use lib.Dec.{eqb, ltb}
 use lib.ListN.{length, drop, getD}
 use Rattle.atlite.specs.Term.{made, Value, ref}
-use Rattle.atlite.specs.State.{Message, O, I, Entity, object, future, resolver, isIsolate}
+use Rattle.atlite.specs.State.{Message, shared, isolated, Entity, object, future, resolver, isIsolate}
 use Rattle.atlite.specs.Valid.{IsEntity}
-use Rattle.atlite.specs.Facts.{and₂, and₃, and₄, both₂, both₃, both₄}
+use Rattle.atlite_laws.specs.Facts.{and₂, and₃, and₄, both₂, both₃, both₄}
 use Rattle.layout.specs.Numbers.{digitLimit, digitsLimit, slotUnit, slotSize, slotCount, bodiesSize}
 use Rattle.layout.specs.Pack.{zeros}
 use Rattle.layout.specs.Terms.{encodeValue, encodeMethods}
-use Rattle.layout.specs.Layout.{slotHead, tagNumber, slot, methodsOf}
-use Rattle.layout.specs.Slots.{EntityFits, head-kind}
-use Rattle.layout.specs.Parse.{valueAt, zerosAt}
-use Rattle.layout.specs.ParseWords.{value-sound, value-read}
-use Rattle.layout.specs.ParseMessages.{zeros-at, zeros-read}
-use Rattle.layout.specs.Spans.{Spans, drop-next, drop-first, span-none, span-end, span-join}
+use Rattle.layout.specs.Layout.{slotHead, tagNumber, slot, entityMethods}
+use Rattle.layout_laws.specs.Slots.{EntityFits, head-kind}
+use Rattle.layout_laws.specs.Parse.{valueAt, zerosAt}
+use Rattle.layout_laws.specs.ParseWords.{value-sound, value-read}
+use Rattle.layout_laws.specs.ParseMessages.{zeros-at, zeros-read}
+use Rattle.layout_laws.specs.Spans.{Spans, drop-next, drop-first, span-none, span-end, span-join}
 use Rattle.wellformed.specs.Kinds.{kindAt, kindOf, allowed, futureBy}
 use Rattle.wellformed.specs.Words.{within}
 use Rattle.wellformed.specs.WordLaws.{within-true}
@@ -89,10 +89,10 @@ module _ (K : List ℕ) (a W : ℕ) (w B : List ℕ) (few : W ≤ 64) where
       )
 
   here-end : (n at b e : ℕ) (o : Entity) → b ≡ e → Here K a W w B few n at b o b → Here K a W w B few n at b o e
-  here-end n at b e o d h = (h .0, span-end B b b e (encodeMethods (methodsOf o)) (h .1) d, h .2, h .3)
+  here-end n at b e o d h = (h .0, span-end B b b e (encodeMethods (entityMethods o)) (h .1) d, h .2, h .3)
 
   open-sound : (n at b : ℕ) → at + slotSize ≤ length w → getD w at 0 / slotUnit ≡ n → getD w at 0 % digitLimit ≡ 3 → openAt w at ≡ true → Here K a W w B few n at b (future none []) b
-  unfolding openAt slot zeros methodsOf encodeMethods
+  unfolding openAt slot zeros entityMethods encodeMethods
   open-sound n at b i num k h =
       let r = and₂ (plainAt w at) (zerosAt w 6 (at + 2)) h in
       let z = span-end w (at + 2) (at + 2 + 6) (at + slotSize) (zeros 6) (zeros-at w 6 (at + 2) (omega arith) (r .1)) (omega arith) in
@@ -118,7 +118,7 @@ module _ (K : List ℕ) (a W : ℕ) (w B : List ℕ) (few : W ≤ 64) where
       (drop-first w (at + 2) x (zeros 5 ++ r) e, zeros-read 5 w (at + 3) r (ap (λ j. drop j w) (sym three) ∙ drop-next w (at + 2) x (zeros 5 ++ r) e))
 
   settled-sound : (n at b : ℕ) → at + slotSize ≤ length w → getD w at 0 / slotUnit ≡ n → getD w at 0 % digitLimit ≡ 4 → settledAt K a w at ≡ true → (v : Value) × Here K a W w B few n at b (future (some v) []) b
-  unfolding settledAt slot zeros methodsOf encodeMethods within
+  unfolding settledAt slot zeros entityMethods encodeMethods within
   settled-sound n at b i num k h =
       let x = getD w (at + 2) 0 in
       let r = and₄ (plainAt w at) (within (allowed K a) (valueAt x)) (not (within (futureBy K) (valueAt x))) (zerosAt w 5 (at + 3)) h in
@@ -138,7 +138,7 @@ module _ (K : List ℕ) (a W : ℕ) (w B : List ℕ) (few : W ≤ 64) where
       (p .0, p .1, both₄ (p .2) (some-within (allowed K a) (valueAt (getD w (at + 2) 0)) v z (h .0)) (rw z (false-not (futureBy K v) (h .1))) (d .1))
 
   resolver-sound : (n at b : ℕ) → at + slotSize ≤ length w → getD w at 0 / slotUnit ≡ n → getD w at 0 % digitLimit ≡ 5 → resolverAt K a w at ≡ true → Here K a W w B few n at b (resolver (getD w (at + 2) 0)) b
-  unfolding resolverAt slot zeros methodsOf encodeMethods
+  unfolding resolverAt slot zeros entityMethods encodeMethods
   resolver-sound n at b i num k h =
       let x = getD w (at + 2) 0 in
       let r = and₃ (plainAt w at) (futureBy K (ref a made x)) (zerosAt w 5 (at + 3)) h in
@@ -154,7 +154,7 @@ module _ (K : List ℕ) (a W : ℕ) (w B : List ℕ) (few : W ≤ 64) where
       (p .0, p .1, both₃ (p .2) (rw (d .0) h) (d .1))
 
   -- ---- all kinds
-  module _ (f g : ℕ → ℕ → ℕ) (jf : Judges K a W w B few O f) (jg : Judges K a W w B few I g) where
+  module _ (f g : ℕ → ℕ → ℕ) (jf : Judges K a W w B few shared f) (jg : Judges K a W w B few isolated g) where
     pub made-sound : (n at b e : ℕ) → at + slotSize ≤ length w → e ≤ bodiesSize → madeEnd K a W w f g n at b ≡ e → (o : Entity) × Here K a W w B few n at b o e
     unfolding madeEnd tagNumber
     made-sound n at b e i l h =
@@ -165,8 +165,8 @@ module _ (K : List ℕ) (a W : ℕ) (w B : List ℕ) (few : W ≤ 64) where
       where
         go : (k : ℕ) → getD w at 0 % digitLimit ≡ k → getD w at 0 / slotUnit ≡ n → getD (slotForms K a W w f g (getD w at 0 / digitsLimit % digitLimit) at b) k 4096 ≡ e → (o : Entity) × Here K a W w B few n at b o e
         go zero k num h = absurd (omega arith)
-        go (suc zero) k num h = let r = object-sound K a W w B few O f jf n at b e i l num k h in (object O (r .0) (r .1), r .2)
-        go (suc (suc zero)) k num h = let r = object-sound K a W w B few I g jg n at b e i l num k h in (object I (r .0) (r .1), r .2)
+        go (suc zero) k num h = let r = object-sound K a W w B few shared f jf n at b e i l num k h in (object shared (r .0) (r .1), r .2)
+        go (suc (suc zero)) k num h = let r = object-sound K a W w B few isolated g jg n at b e i l num k h in (object isolated (r .0) (r .1), r .2)
         go (suc (suc (suc zero))) k num h = let t = reached-by (openAt w at) b e h l in (future none [], here-end n at b e (future none []) (t .1) (open-sound n at b i num k (t .0)))
         go (suc (suc (suc (suc zero)))) k num h =
             let t = reached-by (settledAt K a w at) b e h l in let r = settled-sound n at b i num k (t .0) in (future (some (r .0)) [], here-end n at b e (future (some (r .0)) []) (t .1) (r .1))
@@ -180,9 +180,9 @@ module _ (K : List ℕ) (a W : ℕ) (w B : List ℕ) (few : W ≤ 64) where
     made-by n at b k e num d h = rw (eq-eqb (getD w at 0 / slotUnit) n num, d) h
 
     pub made-complete : (n at b e : ℕ) (o : Entity) → Here K a W w B few n at b o e → madeEnd K a W w f g n at b ≡ e
-    unfolding tagNumber methodsOf encodeMethods
-    made-complete n at b e (object O F M) h = let r = object-complete K a W w B few O f jf n at b e F M h in made-by n at b 1 e (r .0) (r .1) (r .2)
-    made-complete n at b e (object I F M) h = let r = object-complete K a W w B few I g jg n at b e F M h in made-by n at b 2 e (r .0) (r .1) (r .2)
+    unfolding tagNumber entityMethods encodeMethods
+    made-complete n at b e (object shared F M) h = let r = object-complete K a W w B few shared f jf n at b e F M h in made-by n at b 1 e (r .0) (r .1) (r .2)
+    made-complete n at b e (object isolated F M) h = let r = object-complete K a W w B few isolated g jg n at b e F M h in made-by n at b 2 e (r .0) (r .1) (r .2)
     made-complete n at b e (future none q) h =
         let r = open-complete n at q (drop (at + slotSize) w) (h .0 .0) in made-by n at b 3 e (r .0) (r .1) (rw (r .2) (sym (h .1 .1 ∙ add-zero b)))
     made-complete n at b e (future (some v) q) h =
@@ -197,14 +197,14 @@ module _ (K : List ℕ) (a W : ℕ) (w B : List ℕ) (few : W ≤ 64) where
         let x = getD w at 0 in
         let r = reached-by (eqb (x / slotUnit) n && eqb (x % digitLimit) 2) (objectEnd K a W w at b (g (x / digitsLimit % digitLimit) b)) e h l in
         let t = and₂ (eqb (x / slotUnit) n) (eqb (x % digitLimit) 2) (r .0) in
-        let s = object-sound K a W w B few I g jg n at b e i l (eqb-true (x / slotUnit) n (t .0)) (eqb-true (x % digitLimit) 2 (t .1)) (r .1) in
-        (object I (s .0) (s .1), s .2, refl)
+        let s = object-sound K a W w B few isolated g jg n at b e i l (eqb-true (x / slotUnit) n (t .0)) (eqb-true (x % digitLimit) 2 (t .1)) (r .1) in
+        (object isolated (s .0) (s .1), s .2, refl)
 
     pub copied-complete : (n at b e : ℕ) (o : Entity) → Here K a W w B few n at b o e → isIsolate o ≡ true → copiedEnd K a W w f g n at b ≡ e
     unfolding copiedEnd tagNumber isIsolate
-    copied-complete n at b e (object O F M) h i = absurd (false≢true i)
-    copied-complete n at b e (object I F M) h i =
+    copied-complete n at b e (object shared F M) h i = absurd (false≢true i)
+    copied-complete n at b e (object isolated F M) h i =
         let x = getD w at 0 in
-        let r = object-complete K a W w B few I g jg n at b e F M h in rw (eq-eqb (x / slotUnit) n (r .0), eq-eqb (x % digitLimit) 2 (r .1)) (r .2)
+        let r = object-complete K a W w B few isolated g jg n at b e F M h in rw (eq-eqb (x / slotUnit) n (r .0), eq-eqb (x % digitLimit) 2 (r .1)) (r .2)
     copied-complete n at b e (future v q) h i = absurd (false≢true i)
     copied-complete n at b e (resolver k) h i = absurd (false≢true i)

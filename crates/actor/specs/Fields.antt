@@ -11,23 +11,23 @@ use lib.ListN.{length, drop, getD}
 use Rattle.atlite.specs.Base.{member, distinct, all, distinctBy}
 use Rattle.atlite.specs.Term.{Value}
 use Rattle.atlite.specs.State.{Field, field, fieldNames, fieldValues}
-use Rattle.atlite.specs.Valid.{All, isName, fieldsNamed, FieldsHeld}
-use Rattle.atlite.specs.Facts.{and₂, and₃, and₄, both₂, both₃, both₄}
-use Rattle.atlite.specs.Laws.{few-are, are-few}
+use Rattle.atlite.specs.Valid.{AllOf, isName, fieldsNamed, FieldsHeld}
+use Rattle.atlite_laws.specs.Facts.{and₂, and₃, and₄, both₂, both₃, both₄}
+use Rattle.atlite_laws.specs.Laws.{few-are, are-few}
 use Rattle.invariant.specs.Delivery.{fields-all}
 use Rattle.invariant.specs.TermTests.{Is, all-is, is-all}
 use Rattle.layout.specs.Numbers.{nameLimit, slotSize, slotBody}
 use Rattle.layout.specs.Pack.{zeros, pad, names}
-use Rattle.layout.specs.PackLaws.{pack-low, pack-high, length-pad, pad-front, Each, NameFits, names-back}
-use Rattle.layout.specs.Reading.{namesIn}
-use Rattle.layout.specs.Fitting.{fields-named-fit}
+use Rattle.layout_laws.specs.PackLaws.{pack-low, pack-high, length-pad, pad-front, Each, NameFits, names-back}
+use Rattle.decoding.specs.Reading.{namesIn}
+use Rattle.layout_laws.specs.Fitting.{fields-named-fit}
 use Rattle.layout.specs.Layout.{valueWords}
-use Rattle.layout.specs.Decode.{fieldsIn}
-use Rattle.layout.specs.Slots.{length-values, FieldsFit, count-names, count-values}
-use Rattle.layout.specs.Parse.{valuesAt, zerosAt}
-use Rattle.layout.specs.ParseWords.{holding}
-use Rattle.layout.specs.ParseMessages.{ValuesAt, values-at, zeros-at, values-read, zeros-read}
-use Rattle.layout.specs.Spans.{Spans, drop-past, drop-next, drop-first, span-end, span-word, span-join}
+use Rattle.decoding.specs.Decode.{fieldsIn}
+use Rattle.layout_laws.specs.Slots.{length-values, FieldsFit, count-names, count-values}
+use Rattle.layout_laws.specs.Parse.{valuesAt, zerosAt}
+use Rattle.layout_laws.specs.ParseWords.{holding}
+use Rattle.layout_laws.specs.ParseMessages.{ValuesAt, values-at, zeros-at, values-read, zeros-read}
+use Rattle.layout_laws.specs.Spans.{Spans, drop-past, drop-next, drop-first, span-end, span-word, span-join}
 use Rattle.wellformed.specs.Kinds.{allowed}
 use Rattle.wellformed.specs.Words.{within}
 use Rattle.wellformed.specs.WordLaws.{within-true}
@@ -71,7 +71,7 @@ zip-values [] (v ∷ vs) e = absurd (omega arith)
 zip-values (x ∷ xs) [] e = absurd (omega arith)
 zip-values (x ∷ xs) (v ∷ vs) e = ap (λ l. v ∷ l) (zip-values xs vs (omega arith))
 
-held-all : (P : Value → Type 0) (F : List Field) → All P (fieldValues F) → FieldsHeld P F
+held-all : (P : Value → Type 0) (F : List Field) → AllOf P (fieldValues F) → FieldsHeld P F
 unfolding fieldValues
 held-all P [] h = tt
 held-all P (field f v ∷ F) h = (h .0, held-all P F (h .1))

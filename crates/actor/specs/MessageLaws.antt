@@ -9,7 +9,7 @@ use borrow.Author.Tests.{eq-eqb, ne-eqb, lt-ltb, le-ltb, le-leb, lt-leb}
 use lib.ListN.{getD}
 use Rattle.atlite.specs.Base.{all}
 use Rattle.layout.specs.Numbers.{payload, numberLimit, ownerUnit, digitLimit, messageSize, slotSize, madeAt}
-use Rattle.layout.specs.Parse.{valueAt, valuesAt, zerosAt}
+use Rattle.layout_laws.specs.Parse.{valueAt, valuesAt, zerosAt}
 use Rattle.wellformed.specs.Kinds.{allowed}
 use Rattle.wellformed.specs.Words.{within, holds, sendIn}
 use Rattle.actor.specs.Tests.{arguments, sentAt, arrivedAt, arrivalsAt, waitsAt, waitersAt}

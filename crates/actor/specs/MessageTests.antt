@@ -13,14 +13,14 @@ use Rattle.atlite.specs.Base.{all}
 use Rattle.atlite.specs.Term.{Value, Name}
 use Rattle.atlite.specs.State.{Message, message}
 use Rattle.atlite.specs.Valid.{sendable}
-use Rattle.atlite.specs.Facts.{and₅, both₂, both₄}
+use Rattle.atlite_laws.specs.Facts.{and₅, both₂, both₄}
 use Rattle.layout.specs.Numbers.{payload, nameLimit, tagLimit, messageSize}
 use Rattle.layout.specs.Layout.{encodeMessage}
-use Rattle.layout.specs.Slots.{MessageFits}
-use Rattle.layout.specs.Parse.{got, valueAt, nameOf, valuesAt, zerosAt, parseMessage}
-use Rattle.layout.specs.ParseWords.{Holding, holding}
-use Rattle.layout.specs.ParseSound.{Ended, ended, ended-behind}
-use Rattle.layout.specs.ParseMessages.{ended-sure, MessageAt, ValuesAt, values-at, message-sound, message-complete}
+use Rattle.layout_laws.specs.Slots.{MessageFits}
+use Rattle.layout_laws.specs.Parse.{got, valueAt, nameOf, valuesAt, zerosAt, parseMessage}
+use Rattle.layout_laws.specs.ParseWords.{Holding, holding}
+use Rattle.layout_laws.specs.ParseSound.{Ended, ended, ended-behind}
+use Rattle.layout_laws.specs.ParseMessages.{ended-sure, MessageAt, ValuesAt, values-at, message-sound, message-complete}
 use Rattle.wellformed.specs.Kinds.{allowed}
 use Rattle.wellformed.specs.Words.{within, sendIn}
 use Rattle.wellformed.specs.WordLaws.{within-true}

@@ -11,22 +11,22 @@ use lib.Dec.{eqb, ltb, leb}
 use lib.ListN.{length, drop, getD}
 use Rattle.atlite.specs.Term.{made, Value, null, num, ref}
 use Rattle.atlite.specs.State.{Message, message}
-use Rattle.atlite.specs.Valid.{All, Sendable, OwnValue, Arrived}
-use Rattle.atlite.specs.Facts.{and₂, and₃, and₅, both₂, both₃, both₄}
+use Rattle.atlite.specs.Valid.{AllOf, Sendable, OwnValue, Arrived}
+use Rattle.atlite_laws.specs.Facts.{and₂, and₃, and₅, both₂, both₃, both₄}
 use Rattle.invariant.specs.TermTests.{Is, all-is, is-all}
 use Rattle.layout.specs.Numbers.{payload, numberLimit, ownerUnit, ownerLimit, digitLimit, messageSize, slotSize, madeAt}
 use Rattle.layout.specs.Pack.{flat}
-use Rattle.layout.specs.PackLaws.{pack-low, pack-high, Each}
+use Rattle.layout_laws.specs.PackLaws.{pack-low, pack-high, Each}
 use Rattle.layout.specs.Terms.{encodeValue, seriesBit}
-use Rattle.layout.specs.TermLaws.{ValueFits}
-use Rattle.layout.specs.TermReads.{bit}
+use Rattle.layout_laws.specs.TermLaws.{ValueFits}
+use Rattle.layout_laws.specs.TermReads.{bit}
 use Rattle.layout.specs.Layout.{encodeMessage}
-use Rattle.layout.specs.Decode.{aim, aimOf}
-use Rattle.layout.specs.Slots.{MessageFits, message-length}
-use Rattle.layout.specs.Parse.{valueAt}
-use Rattle.layout.specs.ParseWords.{value-sound, value-read}
-use Rattle.layout.specs.ParseMessages.{MessageAt}
-use Rattle.layout.specs.Spans.{Spans, drop-past, span-none, span-end, span-of, span-inside, span-join}
+use Rattle.decoding.specs.Decode.{aim, aimOf}
+use Rattle.layout_laws.specs.Slots.{MessageFits, message-length}
+use Rattle.layout_laws.specs.Parse.{valueAt}
+use Rattle.layout_laws.specs.ParseWords.{value-sound, value-read}
+use Rattle.layout_laws.specs.ParseMessages.{MessageAt}
+use Rattle.layout_laws.specs.Spans.{Spans, drop-past, span-none, span-end, span-of, span-inside, span-join}
 use Rattle.wellformed.specs.Kinds.{allowed}
 use Rattle.wellformed.specs.Words.{within}
 use Rattle.wellformed.specs.WordLaws.{within-true}
@@ -116,7 +116,7 @@ module _ (K : List ℕ) (a W : ℕ) (w : List ℕ) (l : a < ownerLimit) where
 
   -- so many messages of an inbox from one position to another
   abbrev pub InboxIs : ℕ → ℕ → List Message → Type 0
-  InboxIs c at q = (length q ≡ c) × Spans w at (at + messageSize * c) (flat encodeMessage q) × Each MessageFits q × All (Arrived W P a) q
+  InboxIs c at q = (length q ≡ c) × Spans w at (at + messageSize * c) (flat encodeMessage q) × Each MessageFits q × AllOf (Arrived W P a) q
 
   pub inbox-sound : (c at : ℕ) → at + messageSize * c ≤ length w → arrivalsAt K a W w c at ≡ true → (q : List Message) × InboxIs c at q
   unfolding arrivalsAt flat
@@ -127,7 +127,7 @@ module _ (K : List ℕ) (a W : ℕ) (w : List ℕ) (l : a < ownerLimit) where
       let q = inbox-sound c (at + messageSize) (omega arith) (r .1) in
       (m .0 ∷ q .0, (ap suc (q .1 .0), messages-more w at c (m .0) (q .0) (m .1) (q .1 .1), (m .1 .0, q .1 .2), (m .2, q .1 .3)))
 
-  pub inbox-complete : (q : List Message) (at : ℕ) (r : List ℕ) → drop at w ≡ flat encodeMessage q ++ r → Each MessageFits q → All (Arrived W P a) q → arrivalsAt K a W w (length q) at ≡ true
+  pub inbox-complete : (q : List Message) (at : ℕ) (r : List ℕ) → drop at w ≡ flat encodeMessage q ++ r → Each MessageFits q → AllOf (Arrived W P a) q → arrivalsAt K a W w (length q) at ≡ true
   unfolding arrivalsAt
   inbox-complete [] at r e f h = refl
   inbox-complete (m ∷ q) at r e f h =

@@ -11,15 +11,15 @@ use lib.ListN.{length, drop, getD}
 use Rattle.atlite.specs.Term.{this, Value, Methods, signatures}
 use Rattle.atlite.specs.State.{Field, Tag, Entity, object}
 use Rattle.atlite.specs.Valid.{methodsNamed, HeldBy, WellFormedMethods, IsEntity}
-use Rattle.atlite.specs.Facts.{and₃, both₃}
+use Rattle.atlite_laws.specs.Facts.{and₃, both₃}
 use Rattle.invariant.specs.TermTests.{Is}
 use Rattle.layout.specs.Numbers.{digitLimit, digitsLimit, slotUnit, slotSize, slotBody, bodiesSize}
 use Rattle.layout.specs.Terms.{countMethods, encodeMethods}
-use Rattle.layout.specs.Fitting.{methods-named-fit, count-methods}
-use Rattle.layout.specs.Layout.{slotHead, tagNumber, slot, methodsOf}
-use Rattle.layout.specs.Slots.{EntityFits, tag-low, head-kind, head-fields}
-use Rattle.layout.specs.ParseSound.{MethodsAt}
-use Rattle.layout.specs.Spans.{Spans, drop-past, drop-next, drop-first, span-end, span-word, span-join}
+use Rattle.layout_laws.specs.Fitting.{methods-named-fit, count-methods}
+use Rattle.layout.specs.Layout.{slotHead, tagNumber, slot, entityMethods}
+use Rattle.layout_laws.specs.Slots.{EntityFits, tag-low, head-kind, head-fields}
+use Rattle.layout_laws.specs.ParseSound.{MethodsAt}
+use Rattle.layout_laws.specs.Spans.{Spans, drop-past, drop-next, drop-first, span-end, span-word, span-join}
 use Rattle.wellformed.specs.Kinds.{allowed, futureBy}
 use Rattle.actor.specs.Tests.{fieldsAt, objectEnd}
 use Rattle.actor.specs.Fields.{fieldWords, five-words, fields-sound, fields-complete}
@@ -56,13 +56,13 @@ module _ (K : List ℕ) (a W : ℕ) (w B : List ℕ) (few : W ≤ 64) where
 
   -- the n-th entity of its series in the slot at `at`, its methods from b to e
   abbrev pub Here : ℕ → ℕ → ℕ → Entity → ℕ → Type 0
-  Here n at b o e = Spans w at (at + slotSize) (slot n o) × Spans B b e (encodeMethods (methodsOf o)) × EntityFits n o × IsEntity W P (futureBy K) a n o
+  Here n at b o e = Spans w at (at + slotSize) (slot n o) × Spans B b e (encodeMethods (entityMethods o)) × EntityFits n o × IsEntity W P (futureBy K) a n o
 
   -- ---- objects and isolates
   module _ (t : Tag) (f : ℕ → ℕ → ℕ) (j : Judges t f) where
     pub object-sound : (n at b e : ℕ) → at + slotSize ≤ length w → e ≤ bodiesSize → getD w at 0 / slotUnit ≡ n → getD w at 0 % digitLimit ≡ tagNumber t
         → objectEnd K a W w at b (f (getD w at 0 / digitsLimit % digitLimit) b) ≡ e → (F : List Field) × (M : Methods) × Here n at b (object t F M) e
-    unfolding objectEnd slot methodsOf fieldWords
+    unfolding objectEnd slot entityMethods fieldWords
     object-sound n at b e i l num k h =
         let x = getD w at 0 in
         let m = x / digitsLimit % digitLimit in
@@ -89,7 +89,7 @@ module _ (K : List ℕ) (a W : ℕ) (w B : List ℕ) (few : W ≤ 64) where
 
     pub object-complete : (n at b e : ℕ) (F : List Field) (M : Methods) → Here n at b (object t F M) e
         → (getD w at 0 / slotUnit ≡ n) × (getD w at 0 % digitLimit ≡ tagNumber t) × (objectEnd K a W w at b (f (getD w at 0 / digitsLimit % digitLimit) b) ≡ e)
-    unfolding objectEnd slot methodsOf fieldWords
+    unfolding objectEnd slot entityMethods fieldWords
     object-complete n at b e F M h =
         let u = length F in
         let c = countMethods M in

@@ -9,14 +9,14 @@ use native.Mathlib.Omega.{arith}
 use lib.ListN.{length, getD, getElem?}
 use Rattle.atlite.specs.Term.{made, Value, ref}
 use Rattle.atlite.specs.State.{Message, message, Entity, object, future, resolver}
-use Rattle.atlite.specs.Valid.{All, Waits, IsEntity}
-use Rattle.atlite.specs.Facts.{get-below}
+use Rattle.atlite.specs.Valid.{AllOf, Waits, IsEntity}
+use Rattle.atlite_laws.specs.Facts.{get-below}
 use Rattle.invariant.specs.TermTests.{Is}
 use Rattle.layout.specs.Numbers.{ownerLimit, digitLimit, slotSize, madeAt}
-use Rattle.layout.specs.PackLaws.{Each}
+use Rattle.layout_laws.specs.PackLaws.{Each}
 use Rattle.layout.specs.Layout.{queue, queues}
-use Rattle.layout.specs.Decode.{aim, aimOf}
-use Rattle.layout.specs.Slots.{EntityFits, EntitiesFit, kindOfEntity}
+use Rattle.decoding.specs.Decode.{aim, aimOf}
+use Rattle.layout_laws.specs.Slots.{EntityFits, EntitiesFit, kindOfEntity}
 use Rattle.wellformed.specs.Kinds.{allowed, futureBy}
 use Rattle.actor.specs.Series.{EachFrom}
 use Rattle.actor.specs.Queues.{Sorted, Opens, WaitsThere}
@@ -55,7 +55,7 @@ module _ (K : List ℕ) (a W : ℕ) (w : List ℕ) (l : a < ownerLimit) where
           (getD h i (resolver 0), g, sym (k i (getD h i (resolver 0)) g) ∙ ap (λ j. getD w (madeAt + slotSize * j) 0 % digitLimit) y ∙ o .0 .3)
 
   -- ---- from a heap to the words
-  queue-ordered : (n M lo : ℕ) (q r : List Message) → All (Waits W P (ref a made n)) q → lo ≤ n → n < M → getD w (madeAt + slotSize * n) 0 % digitLimit ≡ 3
+  queue-ordered : (n M lo : ℕ) (q r : List Message) → AllOf (Waits W P (ref a made n)) q → lo ≤ n → n < M → getD w (madeAt + slotSize * n) 0 % digitLimit ≡ 3
       → ((k : ℕ) → k ≤ suc n → Ordered K a W w l M k r) → Ordered K a W w l M lo (q ++ r)
   unfolding aim aimOf
   queue-ordered n M lo [] r h i j k rest = rest lo (omega arith)

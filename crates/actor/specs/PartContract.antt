@@ -9,8 +9,8 @@ use Rattle.atlite.specs.Limits.{full, withinActor}
 use Rattle.atlite.specs.Valid.{WellFormed, IsActor}
 use Rattle.layout.specs.Numbers.{exprSize}
 use Rattle.layout.specs.Layout.{encodeActor}
-use Rattle.layout.specs.Parts.{ActorFits}
-use Rattle.layout.specs.ParseSound.{TermAt}
+use Rattle.layout_laws.specs.Parts.{ActorFits}
+use Rattle.layout_laws.specs.ParseSound.{TermAt}
 use Rattle.wellformed.specs.Kinds.{allowed, futureBy}
 
 -- r tells whether P holds

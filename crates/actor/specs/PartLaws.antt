@@ -9,13 +9,13 @@ use borrow.Author.Tests.{eq-eqb, ne-eqb, leb-true, le-leb, lt-leb}
 use lib.Dec.{leb}
 use lib.ListN.{length, take, drop, getD}
 use lib.Seq.{slice}
-use Rattle.atlite.specs.ValidTest.{wellFormed}
-use Rattle.atlite.specs.Facts.{and₃, and₅}
+use Rattle.decoding.specs.ValidTest.{wellFormed}
+use Rattle.atlite_laws.specs.Facts.{and₃, and₅}
 use Rattle.atlite.specs.Term.{top}
 use Rattle.layout.specs.Numbers.{ownerLimit, exprAt, exprSize, messageSize, queueSize, inboxAt, waitingAt, slotSize, madeSize, copiedSize, madeAt, copiedAt, bodiesSize, bodiesAt, restSize, partSize}
-use Rattle.layout.specs.Arity.{nodesIn}
-use Rattle.layout.specs.Parse.{zerosAt}
-use Rattle.layout.specs.ParseLaws.{parse}
+use Rattle.layout_laws.specs.Arity.{nodesIn}
+use Rattle.layout_laws.specs.Parse.{zerosAt}
+use Rattle.layout_laws.specs.ParseLaws.{parse}
 use Rattle.wellformed.specs.Kinds.{allowed}
 use Rattle.wellformed.specs.Ends.{endOf}
 use Rattle.actor.specs.Tests.{arrivalsAt, waitersAt, madeEnd, copiedEnd, slotsEnd, countsHold, headHolds, exprHolds, madeHolds, copiedHolds, bodiesHold, endHolds, inboxHolds, waitingHolds, madeReached, copiedReached, heapHolds, restHolds, partHolds}

@@ -13,17 +13,17 @@ use lib.ListN.{length, drop, getD, getElem?}
 use lib.Seq.{getD-drop}
 use Rattle.atlite.specs.Base.{if_then_else_, sum}
 use Rattle.atlite.specs.Term.{made, Value, ref}
-use Rattle.atlite.specs.State.{Message, O, I, Entity, object, future, resolver}
+use Rattle.atlite.specs.State.{Message, shared, isolated, Entity, object, future, resolver}
 use Rattle.atlite.specs.Limits.{bodyNodes}
-use Rattle.atlite.specs.Valid.{All, Waits, IsEntity}
-use Rattle.atlite.specs.Facts.{none-some}
+use Rattle.atlite.specs.Valid.{AllOf, Waits, IsEntity}
+use Rattle.atlite_laws.specs.Facts.{none-some}
 use Rattle.layout.specs.Numbers.{digitLimit, slotSize}
-use Rattle.layout.specs.PackLaws.{Each, each-map}
+use Rattle.layout_laws.specs.PackLaws.{Each, each-map}
 use Rattle.layout.specs.Terms.{encodeMethods}
-use Rattle.layout.specs.Layout.{tagNumber, slot, slots, methodsOf, bodies, queue, queues}
-use Rattle.layout.specs.Decode.{aim, mine, others}
-use Rattle.layout.specs.Slots.{MessageFits, EntityFits, EntitiesFit, slot-length, kindOfEntity, slot-kind}
-use Rattle.layout.specs.Spans.{drop-past}
+use Rattle.layout.specs.Layout.{tagNumber, slot, slots, entityMethods, bodies, queue, queues}
+use Rattle.decoding.specs.Decode.{aim, mine, others}
+use Rattle.layout_laws.specs.Slots.{MessageFits, EntityFits, EntitiesFit, slot-length, kindOfEntity, slot-kind}
+use Rattle.layout_laws.specs.Spans.{drop-past}
 use Rattle.actor.specs.Series.{EachFrom}
 
 -- ---- the kind in a slot's head
@@ -67,11 +67,11 @@ module _ (o : Entity) (q : List Message) where
       go (future (some v) r) = refl
       go (resolver k) = refl
 
-  methods-same : methodsOf (withQueue o q) ≡ methodsOf o
-  unfolding withQueue methodsOf
+  methods-same : entityMethods (withQueue o q) ≡ entityMethods o
+  unfolding withQueue entityMethods
   methods-same = go o
     where
-      go : (o : Entity) → methodsOf (withQueue o q) ≡ methodsOf o
+      go : (o : Entity) → entityMethods (withQueue o q) ≡ entityMethods o
       go (object t F M) = refl
       go (future none r) = refl
       go (future (some v) r) = refl
@@ -172,8 +172,8 @@ mine-none n o h (m ∷ q) f k = go (eqb (aim m) n) refl
 
 queue-given : (n : ℕ) (o : Entity) (h : List Entity) (q : List Message) → EntityFits n o → Each (Opens n (o ∷ h)) q → queue (withQueue o (mine n q)) ≡ mine n q
 unfolding withQueue queue kindOfEntity tagNumber
-queue-given n (object O F M) h q f k = sym (mine-none n (object O F M) h q (λ e. omega arith) k)
-queue-given n (object I F M) h q f k = sym (mine-none n (object I F M) h q (λ e. omega arith) k)
+queue-given n (object shared F M) h q f k = sym (mine-none n (object shared F M) h q (λ e. omega arith) k)
+queue-given n (object isolated F M) h q f k = sym (mine-none n (object isolated F M) h q (λ e. omega arith) k)
 queue-given n (future none r) h q f k = refl
 queue-given n (future (some v) r) h q f k = f .1 ∙ sym (mine-none n (future (some v) r) h q (λ e. omega arith) k)
 queue-given n (resolver i) h q f k = sym (mine-none n (resolver i) h q (λ e. omega arith) k)
@@ -213,7 +213,7 @@ module _ (W : ℕ) (P : Value → Type 0) (φ : Value → Bool) (a : ℕ) where
   abbrev pub WaitsThere : Message → Type 0
   WaitsThere m = Waits W P (ref a made (aim m)) m
 
-  waits-here : (n : ℕ) (q : List Message) → Each (λ m. WaitsThere m × (aim m ≡ n)) q → All (Waits W P (ref a made n)) q
+  waits-here : (n : ℕ) (q : List Message) → Each (λ m. WaitsThere m × (aim m ≡ n)) q → AllOf (Waits W P (ref a made n)) q
   waits-here n [] h = tt
   waits-here n (m ∷ q) h = (transp (λ i. Waits W P (ref a made i) m) (h .0 .1) (h .0 .0), waits-here n q (h .1))
 

@@ -8,11 +8,11 @@ use lib.ListN.{length, take, drop, getD, take-append-drop, length-drop, drop-of-
 use lib.Seq.{slice, take-append-add, drop-append-le, length-take-le, drop-drop, take-at}
 use Rattle.layout.specs.Numbers.{exprAt, inboxAt, waitingAt, madeAt, copiedAt, bodiesSize, bodiesAt, restSize, partSize}
 use Rattle.layout.specs.Pack.{zeros, pad}
-use Rattle.layout.specs.PackLaws.{pad-front}
-use Rattle.layout.specs.Writes.{zeros-split}
-use Rattle.layout.specs.Parse.{zerosAt}
-use Rattle.layout.specs.ParseMessages.{zeros-at, zeros-read}
-use Rattle.layout.specs.Spans.{Spans, drop-past, span-of, span-end, span-join}
+use Rattle.layout_laws.specs.PackLaws.{pad-front}
+use Rattle.layout_laws.specs.Writes.{zeros-split}
+use Rattle.layout_laws.specs.Parse.{zerosAt}
+use Rattle.layout_laws.specs.ParseMessages.{zeros-at, zeros-read}
+use Rattle.layout_laws.specs.Spans.{Spans, drop-past, span-of, span-end, span-join}
 use Rattle.actor.specs.Objects.{span-is}
 
 -- ---- zeros behind

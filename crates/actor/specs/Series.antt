@@ -10,12 +10,12 @@ use lib.Dec.{leb}
 use lib.ListN.{length, drop, getElem?, length-append}
 use Rattle.atlite.specs.State.{Entity}
 use Rattle.atlite.specs.Valid.{Each}
-use Rattle.atlite.specs.Facts.{none-some}
+use Rattle.atlite_laws.specs.Facts.{none-some}
 use Rattle.layout.specs.Numbers.{slotSize, bodiesSize}
 use Rattle.layout.specs.Terms.{encodeMethods}
-use Rattle.layout.specs.Layout.{slot, slots, methodsOf, bodies}
-use Rattle.layout.specs.Slots.{EntityFits, EntitiesFit, slot-length}
-use Rattle.layout.specs.Spans.{Spans, drop-past, span-of, span-none, span-end, span-join}
+use Rattle.layout.specs.Layout.{slot, slots, entityMethods, bodies}
+use Rattle.layout_laws.specs.Slots.{EntityFits, EntitiesFit, slot-length}
+use Rattle.layout_laws.specs.Spans.{Spans, drop-past, span-of, span-none, span-end, span-join}
 use Rattle.actor.specs.Tests.{slotsEnd}
 use Rattle.actor.specs.Objects.{reached-by}
 
@@ -55,7 +55,7 @@ span-split w at m i xs ys z h =
 module _ (w B : List ℕ) (E : ℕ → Entity → Type 0) where
   -- the n-th entity of the series, in the slot at `at`, its methods from b to e
   abbrev pub Stands : ℕ → ℕ → ℕ → Entity → ℕ → Type 0
-  Stands n at b o e = Spans w at (at + slotSize) (slot n o) × Spans B b e (encodeMethods (methodsOf o)) × EntityFits n o × E n o
+  Stands n at b o e = Spans w at (at + slotSize) (slot n o) × Spans B b e (encodeMethods (entityMethods o)) × EntityFits n o × E n o
 
   -- k entities from the n-th on
   abbrev pub SeriesIs : ℕ → ℕ → ℕ → ℕ → ℕ → List Entity → Type 0
@@ -75,7 +75,7 @@ module _ (w B : List ℕ) (E : ℕ → Entity → Type 0) where
             (
               ap suc (s .1 .0),
               span-end w at (at + slotSize + slotSize * k) (at + slotSize * suc k) (slot n (o .0) ++ slots (suc n) (s .0)) (span-join w at (at + slotSize) (at + slotSize + slotSize * k) (slot n (o .0)) (slots (suc n) (s .0)) (o .1 .0) (s .1 .1)) (omega arith),
-              span-join B b x e (encodeMethods (methodsOf (o .0))) (bodies (s .0)) (o .1 .1) (s .1 .2),
+              span-join B b x e (encodeMethods (entityMethods (o .0))) (bodies (s .0)) (o .1 .1) (s .1 .2),
               (o .1 .2, s .1 .3),
               (o .1 .3, s .1 .4),
             ),
@@ -88,7 +88,7 @@ module _ (w B : List ℕ) (E : ℕ → Entity → Type 0) where
       slots-complete [] n at b e r l d s g k = omega (arith, s .1)
       slots-complete (o ∷ h) n at b e r l d s g k =
           let x = slot n o in
-          let y = encodeMethods (methodsOf o) in
+          let y = encodeMethods (entityMethods o) in
           let m = b + length y in
           let c : drop at w ≡ x ++ (slots (suc n) h ++ r) = d ∙ append-assoc x (slots (suc n) h) r in
           let eight = slot-length n o (g .0) in

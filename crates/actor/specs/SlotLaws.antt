@@ -13,8 +13,8 @@ use lib.ListN.{length, getD}
 use Rattle.atlite.specs.Base.{all}
 use Rattle.atlite.specs.Term.{made, null, ref}
 use Rattle.layout.specs.Numbers.{payload, digitLimit, digitsLimit, slotUnit, slotSize, slotBody, slotCount, bodiesSize}
-use Rattle.layout.specs.TermReading.{refIn}
-use Rattle.layout.specs.Parse.{given, valueForms, valueIn, valueAt, valuesAt, zerosAt, parseMethods}
+use Rattle.decoding.specs.TermReading.{refIn}
+use Rattle.layout_laws.specs.Parse.{given, valueForms, valueIn, valueAt, valuesAt, zerosAt, parseMethods}
 use Rattle.wellformed.specs.Kinds.{kindAt, kindOf, allowed, futureBy}
 use Rattle.wellformed.specs.Words.{within, holds}
 use Rattle.wellformed.specs.Ends.{endOf, methodsHold}

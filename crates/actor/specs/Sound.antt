@@ -11,23 +11,23 @@ use lib.ListN.{length, take, drop, getD}
 use lib.Seq.{slice}
 use Rattle.atlite.specs.Base.{sum}
 use Rattle.atlite.specs.Term.{Value, Term, nodes, top}
-use Rattle.atlite.specs.State.{Message, O, I, Entity, Actor, isIsolate}
-use Rattle.atlite.specs.Limits.{bodyNodes, waiting, full, withinActor}
+use Rattle.atlite.specs.State.{Message, shared, isolated, Entity, Actor, isIsolate}
+use Rattle.atlite.specs.Limits.{bodyNodes, waitingIn, full, withinActor}
 use Rattle.atlite.specs.Valid.{WellFormed, IsEntity, IsActor}
-use Rattle.atlite.specs.Facts.{and₂, and₃, and₅, both₂, both₃, both₄}
+use Rattle.atlite_laws.specs.Facts.{and₂, and₃, and₅, both₂, both₃, both₄}
 use Rattle.invariant.specs.TermTests.{Is}
 use Rattle.layout.specs.Numbers.{ownerLimit, exprAt, exprSize, messageSize, queueSize, inboxAt, waitingAt, slotSize, madeSize, copiedSize, madeAt, copiedAt, bodiesSize, bodiesAt, restSize, partSize}
 use Rattle.layout.specs.Pack.{zeros, pad, flat}
-use Rattle.layout.specs.PackLaws.{pad-front}
+use Rattle.layout_laws.specs.PackLaws.{pad-front}
 use Rattle.layout.specs.Terms.{encodeTerm}
-use Rattle.layout.specs.TermLaws.{Fits}
+use Rattle.layout_laws.specs.TermLaws.{Fits}
 use Rattle.layout.specs.Layout.{encodeMessage, slots, bodies, queues, encodeActor}
-use Rattle.layout.specs.Slots.{EntitiesFit}
-use Rattle.layout.specs.Parts.{ActorFits}
-use Rattle.layout.specs.StateFits.{isolate-waits, queues-count}
-use Rattle.layout.specs.Arity.{nodesIn, nodes-append, term-nodes, bodies-nodes}
-use Rattle.layout.specs.Parse.{zerosAt}
-use Rattle.layout.specs.Spans.{Spans, span-join, span-end}
+use Rattle.layout_laws.specs.Slots.{EntitiesFit}
+use Rattle.layout_laws.specs.Parts.{ActorFits}
+use Rattle.layout_laws.specs.StateFits.{isolate-waits, queues-count}
+use Rattle.layout_laws.specs.Arity.{nodesIn, nodes-append, term-nodes, bodies-nodes}
+use Rattle.layout_laws.specs.Parse.{zerosAt}
+use Rattle.layout_laws.specs.Spans.{Spans, span-join, span-end}
 use Rattle.wellformed.specs.Kinds.{allowed, futureBy}
 use Rattle.actor.specs.Tests.{arrivalsAt, waitersAt, madeEnd, copiedEnd, countsHold, headHolds, exprHolds, inboxHolds, waitingHolds, madeReached, copiedReached, madeHolds, copiedHolds, bodiesHold, endHolds, heapHolds, restHolds, partHolds}
 use Rattle.actor.specs.Messages.{InboxIs, inbox-sound, Ordered, WaitingIs, waiting-sound}
@@ -167,7 +167,7 @@ module _ (K : List ℕ) (a W : ℕ) (w : List ℕ) (few : W ≤ 64) (l : a < own
         small = omega arith;
       }
 
-  heap-sound : (f g : ℕ → ℕ → ℕ) → Judges K a W w (take bodiesSize (drop bodiesAt w)) few O f → Judges K a W w (take bodiesSize (drop bodiesAt w)) few I g → Head → heapHolds w K a W f g ≡ true
+  heap-sound : (f g : ℕ → ℕ → ℕ) → Judges K a W w (take bodiesSize (drop bodiesAt w)) few shared f → Judges K a W w (take bodiesSize (drop bodiesAt w)) few isolated g → Head → heapHolds w K a W f g ≡ true
       → (h : List Entity) × (c : List Entity) × HeapIs h c
   unfolding heapHolds madeHolds copiedHolds bodiesHold endHolds madeReached copiedReached
   heap-sound f g jf jg t x =
@@ -235,7 +235,7 @@ module _ (K : List ℕ) (a W : ℕ) (w : List ℕ) (few : W ≤ 64) (l : a < own
         let cc' = eh .countC in
         let ck = fill-length h 0 q in
         let nb : sum bodyNodes (fill 0 h q) + sum bodyNodes c ≤ 768 = rw (fill-nodes h 0 q) (eh .small) in
-        let nq : sum waiting (fill 0 h q) ≤ 16 = omega (arith, queues-count (fill 0 h q), ap length all-given, eq .0, g .waiting) in
+        let nq : sum waitingIn (fill 0 h q) ≤ 16 = omega (arith, queues-count (fill 0 h q), ap length all-given, eq .0, g .waiting) in
         both₃ (both₂ (both₄ (le-leb (getD w 0 0) top (g .moves)) (le-leb (length i) 16 (omega (arith, g .inbox))) (le-leb (length (fill 0 h q)) 32 (omega (arith, g .made))) (le-leb (length c) 16 (omega (arith, g .copied))))
         (le-leb _ 768 nb)) (le-leb _ 16 nq) (le-leb _ 256 (et .small))
 
@@ -267,7 +267,7 @@ module _ (K : List ℕ) (a W : ℕ) (w : List ℕ) (few : W ≤ 64) (l : a < own
     unfolding IsPart
     is-part = (actor, laid-out, within, holds, fits)
 
-  pub part-sound : (f g : ℕ → ℕ → ℕ) (e : ℕ) → Judges K a W w (take bodiesSize (drop bodiesAt w)) few O f → Judges K a W w (take bodiesSize (drop bodiesAt w)) few I g → Ends K a W (take exprSize (drop exprAt w)) e
+  pub part-sound : (f g : ℕ → ℕ → ℕ) (e : ℕ) → Judges K a W w (take bodiesSize (drop bodiesAt w)) few shared f → Judges K a W w (take bodiesSize (drop bodiesAt w)) few isolated g → Ends K a W (take exprSize (drop exprAt w)) e
       → partHolds w K a W f g e ≡ true → IsPart K a W w
   unfolding partHolds restHolds
   part-sound f g e jf jg je x =

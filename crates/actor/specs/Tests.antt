@@ -11,9 +11,9 @@ use Rattle.atlite.specs.Base.{member, all}
 use Rattle.atlite.specs.Term.{made, ref, top}
 use Rattle.atlite.specs.Valid.{isName}
 use Rattle.layout.specs.Numbers.{payload, nameLimit, tagLimit, numberLimit, ownerUnit, digitLimit, digitsLimit, slotUnit, exprAt, exprSize, messageSize, queueSize, inboxAt, waitingAt, slotSize, slotBody, madeSize, copiedSize, madeAt, copiedAt, bodiesSize, bodiesAt, restSize}
-use Rattle.layout.specs.Reading.{namesIn}
-use Rattle.layout.specs.Arity.{nodesIn}
-use Rattle.layout.specs.Parse.{valueAt, valuesAt, zerosAt}
+use Rattle.decoding.specs.Reading.{namesIn}
+use Rattle.layout_laws.specs.Arity.{nodesIn}
+use Rattle.layout_laws.specs.Parse.{valueAt, valuesAt, zerosAt}
 use Rattle.wellformed.specs.Kinds.{allowed, futureBy}
 use Rattle.wellformed.specs.Words.{within, sendIn}
 

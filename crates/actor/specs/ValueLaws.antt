@@ -15,10 +15,10 @@ use Rattle.atlite.specs.Term.{Value}
 use Rattle.atlite.specs.Valid.{isName}
 use Rattle.layout.specs.Numbers.{nameLimit}
 use Rattle.layout.specs.Pack.{zeros}
-use Rattle.layout.specs.PackLaws.{length-zeros}
-use Rattle.layout.specs.Reading.{namesIn}
-use Rattle.layout.specs.Parse.{valueAt, before, valuesAt, zerosAt}
-use Rattle.layout.specs.ParseMessages.{zeros-at, zeros-read}
+use Rattle.layout_laws.specs.PackLaws.{length-zeros}
+use Rattle.decoding.specs.Reading.{namesIn}
+use Rattle.layout_laws.specs.Parse.{valueAt, before, valuesAt, zerosAt}
+use Rattle.layout_laws.specs.ParseMessages.{zeros-at, zeros-read}
 use Rattle.words.specs.Runs.{Same}
 use Rattle.wellformed.specs.Kinds.{allowed}
 use Rattle.wellformed.specs.Words.{within, holds}

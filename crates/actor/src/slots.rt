@@ -7,7 +7,7 @@ ghost use lib.Dec.{eqb};
 ghost use lib.ListN.{length, getD};
 ghost use Rattle.atlite.specs.Term.{made as seriesM, ref};
 ghost use Rattle.layout.specs.Numbers.{digitLimit, digitsLimit, slotSize, bodiesSize};
-ghost use Rattle.layout.specs.Parse.{valueAt};
+ghost use Rattle.layout_laws.specs.Parse.{valueAt};
 ghost use Rattle.wellformed.specs.Kinds.{futureBy};
 ghost use Rattle.wellformed.specs.Words.{within};
 ghost use Rattle.actor.specs.Tests.{fieldsAt, objectEnd, endIf, plainAt, openAt, settledAt, resolverAt, madeEnd, copiedEnd, slotsEnd};

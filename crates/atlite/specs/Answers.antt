@@ -46,7 +46,3 @@ printAnswer (P.Refused n) = refused n
 unfoldable pub listAnswer : Listed → Result ℕ
 listAnswer (S.Bytes n) = done n
 listAnswer (S.Refused n) = refused n
-
-unfoldable pub Answers : Unit {0}
-unfolding moveAnswer runAnswer readAnswer loadAnswer printAnswer listAnswer
-Answers = tt

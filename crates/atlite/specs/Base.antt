@@ -10,6 +10,31 @@ use mathlib.Core.List.{List, [], _∷_}
 use mathlib.Core.Option.{Option, none, some}
 use lib.Dec.{eqb}
 
+-- The causes of document 01's table, and where each is found:
+--
+--   1   the text is empty or over 4,096 bytes                  Table.read
+--   2   it is not of the grammar                               Reader; Script.join for a last line that is a definition; Loops.played
+--   3   a variable is not bound, or not to be seen here        Scope.bound
+--   4   a list names a thing twice                             Scope.single
+--   5   brackets, words or nodes beyond the limits             Table.read, by Reader.depth, Lexicon.wordsOf, Script.size
+--   6   a lent list is too short                               Meaning.room of crate `promises`; Program.listed
+--   7   words are no table or no state                         Meaning.tableIn, stateIn
+--   8   there is no such actor                                 Move.free
+--   9   the expression is a value and the inbox is empty       Move.takeRule
+--   10  the receiver is null or a number                       Outcome.ownEntity, Rules.ownerlessRule
+--   11  get, set or call on another's entity                   Outcome.ownEntity
+--   12  no such field, no method of the name with so many      Rules: fieldsOf, getRule, setRule, methodsOf, invoke, resolves
+--       parameters, or an entity of another kind
+--   13  .resolve on a resolved future                          Rules.openFuture
+--   14  .resolve with a future                                 Rules.resolveRule
+--   15  plus or percent on other than numbers, or too large    Rules.asNumber, number
+--   16  a limit would be passed                                Move.limited, Load.load
+--
+-- What no state can meet, such as a reference that names nothing, still needs an answer here, which no call ever gives. It has one name, so
+-- that where a cause is written as a number it is one of the table's.
+abbrev pub noState : ℕ
+noState = 12
+
 -- a value, or the number of the cause that refused it
 pub data Result (A : Type 0) : Type 0 where
   done : A → Result A

@@ -32,8 +32,8 @@ unfoldable pub causeOf : {A : Type 0} → Result A → ℕ
 causeOf (done a) = 0
 causeOf (refused n) = n
 
-unfoldable pub entries : Bytes → List ℕ
-entries t = map (λ b. b - 48) t
+unfoldable pub scheduled : Bytes → List ℕ
+scheduled t = map (λ b. b - 48) t
 
 -- the cause that refuses the last entry
 unfoldable pub lastCause : State → List ℕ → ℕ
@@ -46,7 +46,7 @@ shownFrom (refused n) es = record { cause = n; final = [] }
 shownFrom (done σ) es = record { cause = lastCause σ es; final = listing (run σ es .state) }
 
 unfoldable pub computed : Example → Shown
-computed k = shownFrom (read operators (bytes (k .script)) >>= load) (entries (bytes (k .schedule)))
+computed k = shownFrom (read operators (bytes (k .script)) >>= load) (scheduled (bytes (k .schedule)))
 
 unfoldable pub stated : Example → Shown
 stated k = record { cause = k .cause; final = bytes (k .final) }
@@ -83,5 +83,19 @@ table =
     ∷ []
 
 pub worked-examples : map computed table ≡ map stated table
-unfolding All causeOf entries lastCause shownFrom computed stated row K1 table
+unfolding All causeOf scheduled lastCause shownFrom computed stated row K1 table
 worked-examples = refl
+
+-- What the examples of document 01 leave open: a second message stands behind the first, and is taken after it.
+unfoldable pub inboxTable : List Example
+unfolding row
+inboxTable =
+    row "(def a (actor (field n 0) (method put (k) (set this n k))))\n(send a put 1)\n(send a put 2)\n" "00000" 0
+    "(actor 0 5 0 0 null)\n(actor 1 0 1 0 (let .s (set (ref 1 m 0) n 0) (ref 1 m 0)))\n(object 1 m 0 (field n null) (method put (k) (set this n k)))\n(message (ref 1 m 0) put 1)\n(message (ref 1 m 0) put 2)\n"
+    ∷ row "(def a (actor (field n 0) (method put (k) (set this n k))))\n(send a put 1)\n(send a put 2)\n" "00000111111" 0
+    "(actor 0 5 0 0 null)\n(actor 1 6 1 0 (call (ref 1 m 0) put 2))\n(object 1 m 0 (field n 1) (method put (k) (set this n k)))\n"
+    ∷ []
+
+pub inbox-in-order : map computed inboxTable ≡ map stated inboxTable
+unfolding All causeOf scheduled lastCause shownFrom computed stated row inboxTable
+inbox-in-order = refl

@@ -1,4 +1,6 @@
--- The words that the grammar keeps for itself, each spelled once: reader, printer and listing take them from here. Assumes nothing.
+-- The words that the grammar keeps for itself. Assumes nothing.
+--
+-- Document 01, "Script text", the operator words and the five others. Each is spelled once: reader, printer and listing take it from here.
 use Prim.Native.Nat.{ℕ}
 use mathlib.Core.List.{List, [], _∷_, _++_, map}
 use Rattle.atlite.specs.Base.{bytes}

@@ -1,5 +1,7 @@
--- Bytes, words and numbers of a script's text, and the dictionary of a text: its unreserved words, numbered as they first
--- turn up. `apply` has a number of its own in every script and is left out of the dictionary. Assumes nothing.
+-- Bytes, words and numbers of a script's text, and the dictionary of a text. Assumes nothing.
+--
+-- Document 01, "Script text", and of "State" the sentence on the script's words. The dictionary of a text is its unreserved words, numbered
+-- as they first turn up. `apply` has a number of its own in every script and is left out of the dictionary.
 use Prim.Native.Nat.{ℕ, suc, _+_, _-_, _*_}
 use mathlib.Core.Bool.{Bool, false, _&&_, _||_, not}
 use mathlib.Core.List.{List, [], _∷_, _++_}

@@ -16,7 +16,6 @@ pub mod Expansion
 pub mod State
 pub mod Limits
 pub mod Valid
-pub mod ValidTest
 -- moves
 pub mod Redex
 pub mod Outcome
@@ -33,7 +32,3 @@ pub mod Program
 pub mod Loops
 pub mod Replay
 pub mod Examples
--- laws, which need not be believed
-pub mod Facts
-pub mod Laws
-pub mod Others

@@ -1,11 +1,13 @@
--- The listing of a state as bytes: actors in order, of each its line, its entities and its inbox. Assumes nothing.
+-- The listing of a state as bytes. Assumes nothing.
+--
+-- Document 01, "Listing and worked examples": actors in order, of each its line, its entities and its inbox.
 use Prim.Native.Nat.{ℕ, suc}
 use mathlib.Core.List.{List, [], _∷_, _++_, map}
 use mathlib.Core.Option.{Option, none, some}
 use lib.ListN.{length}
 use Rattle.atlite.specs.Base.{bytes}
 use Rattle.atlite.specs.Term.{Series, made, copied, Value, null, num, ref, Term, val, var, op, letIn, future, literal, Terms, nil, cons, Inits, noField, field, Methods, noMethod, method}
-use Rattle.atlite.specs.State.{Message, message, Field, Tag, O, I, Entity, object, resolver, Actor, State}
+use Rattle.atlite.specs.State.{Message, message, Field, Tag, shared, isolated, Entity, object, resolver, Actor, State}
 use Rattle.atlite.specs.Lexicon.{Bytes}
 use Rattle.atlite.specs.Printer.{Printer, printNumber, printWord, printName, opNames, placed, form}
 use Rattle.atlite.specs.Keywords.{opWord, printKind, letWord, futureWord, nullWord, fieldWord, methodWord}
@@ -47,12 +49,12 @@ unfoldable pub printMessage : List Bytes → Message → Bytes
 printMessage ws (message v m vs) = form (bytes "message" ∷ printValue v ∷ printName ws m ∷ map printValue vs)
 
 unfoldable pub printTag : Tag → Bytes
-printTag O = bytes "object"
-printTag I = bytes "isolate"
+printTag shared = bytes "object"
+printTag isolated = bytes "isolate"
 
-unfoldable pub printState : Option Value → Bytes
-printState none = bytes "open"
-printState (some v) = printValue v
+unfoldable pub printContent : Option Value → Bytes
+printContent none = bytes "open"
+printContent (some v) = printValue v
 
 unfoldable pub line : List Bytes → Bytes
 line ws = form ws ++ (10 ∷ [])
@@ -60,7 +62,7 @@ line ws = form ws ++ (10 ∷ [])
 -- the line of the entity (a s n)
 unfoldable pub printEntity : List Bytes → Entity → Bytes → Bytes → Bytes → Bytes
 printEntity ws (object t F M) a s n = line (printTag t ∷ a ∷ s ∷ n ∷ (map (printField ws) F ++ printMethods ws M))
-printEntity ws (Entity.future v q) a s n = line (futureWord ∷ a ∷ s ∷ n ∷ printState v ∷ map (printMessage ws) q)
+printEntity ws (Entity.future v q) a s n = line (futureWord ∷ a ∷ s ∷ n ∷ printContent v ∷ map (printMessage ws) q)
 printEntity ws (resolver k) a s n = line (bytes "resolver" ∷ a ∷ s ∷ n ∷ printNumber k ∷ [])
 
 unfoldable pub printEntities : List Bytes → ℕ → Series → ℕ → List Entity → Bytes
@@ -86,5 +88,5 @@ unfoldable pub listing : State → Bytes
 listing σ = printActors (σ .words) 0 (σ .actors)
 
 unfoldable pub Listing : Unit {0}
-unfolding Printer printSeries printValue printTerm printField printMessage printTag printState line printEntity printEntities printInbox printActor printActors listing
+unfolding Printer printSeries printValue printTerm printField printMessage printTag printContent line printEntity printEntities printInbox printActor printActors listing
 Listing = tt

@@ -1,5 +1,6 @@
--- The text of a script: the one text that the reader takes for it. Numbers, words and bracketed items are printed by the
--- listing in the same way. Assumes nothing.
+-- The text of a script: the one text that the reader takes for it. Assumes nothing.
+--
+-- Document 01, "Script text", the sentences on spaces and brackets. The listing prints numbers, words and bracketed items in the same way.
 use Prim.Native.Nat.{ℕ, zero, suc, _+_, _-_, _/_, _%_}
 use mathlib.Core.Bool.{true, false}
 use mathlib.Core.List.{List, [], _∷_, _++_, map}

@@ -1,7 +1,9 @@
--- The reader, from the bytes of a text to the lines of its script. It refuses with 2 whatever is not of the grammar, and says
--- nothing of binding, lists and limits. A reader takes a value off the front of a text and hands on what is left; the readers
--- of forms are given the reader of their expressions, so that only `readExpr` needs fuel: one for each bracket that it goes
--- into. Assumes nothing.
+-- The reader, from the bytes of a text to the lines of its script. Assumes nothing.
+--
+-- Document 01, "Script text", cause 2: the reader refuses whatever is not of the grammar, and says nothing of binding, lists and limits. It
+-- takes a value off the front of a text and hands on what is left. The readers of forms are given the reader of their expressions, so that
+-- only two need fuel: `readExpr`, one for each bracket that it goes into, and `readLines`, one for each line. A text's length and one more
+-- is enough for both (`script-exact` of crate `reading`).
 use Prim.Native.Nat.{ℕ, zero, suc, _+_, _-_, max}
 use mathlib.Core.Bool.{true, false}
 use mathlib.Core.List.{List, [], _∷_}

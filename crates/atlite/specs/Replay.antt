@@ -1,5 +1,7 @@
 -- What the program `replay` prints for an input: the answer to each call, then the listing. Assumes nothing.
 --
+-- Document 01 has no such program; docs/MANUAL.md says what it is for.
+--
 -- A line of calls is a number of tokens with one space between each two, or empty. A token of digits is one call for each digit, the move of
 -- that actor; digits from 4 to 9 name no actor and are calls all the same. The line is judged before anything else is looked at.
 use Prim.Native.Nat.{ℕ}
@@ -10,7 +12,7 @@ use Rattle.atlite.specs.Base.{Result, done, refused, _>>=_, bytes, if_th
 use Rattle.atlite.specs.Lexicon.{Bytes, space, newline, isDigit}
 use Rattle.atlite.specs.Printer.{printNumber, printItems}
 use Rattle.atlite.specs.State.{State}
-use Rattle.atlite.specs.Move.{Answer, Inner, Taken, Sent, Created, Moved, move}
+use Rattle.atlite.specs.Move.{Answer, Inner, Taken, Sent, Created, AfterMove, move}
 use Rattle.atlite.specs.Program.{Input, split, short, started, listed, shown}
 use Rattle.atlite.specs.Loops as Loops
 use Rattle.atlite.specs.Loops.{entry}
@@ -31,14 +33,14 @@ tokens [] = []
 tokens (b ∷ w) = between (b ∷ w)
 
 -- the calls of digits, before others
-unfoldable pub digits : Bytes → Option (List ℕ) → Option (List ℕ)
-digits [] es = es
-digits (b ∷ w) es = if isDigit b then entry b (digits w es) else none
+unfoldable pub digitCalls : Bytes → Option (List ℕ) → Option (List ℕ)
+digitCalls [] es = es
+digitCalls (b ∷ w) es = if isDigit b then entry b (digitCalls w es) else none
 
 -- the calls of a token, before others
 unfoldable pub token : Bytes → Option (List ℕ) → Option (List ℕ)
 token [] es = none
-token (b ∷ w) es = digits (b ∷ w) es
+token (b ∷ w) es = digitCalls (b ∷ w) es
 
 unfoldable pub calls : List Bytes → Option (List ℕ)
 calls [] = some []
@@ -57,13 +59,13 @@ pub record Replayed : Type 0 where
   pub state : State
 
 -- one call more, by what its move gave
-unfoldable pub after : Replayed → Result Moved → Replayed
-after R (done M) = record { answers = R .answers ++ (answerText (M .answer) ∷ []); state = M .state }
-after R (refused n) = record { answers = R .answers ++ (printNumber n ∷ []); state = R .state }
+unfoldable pub afterCall : Replayed → Result AfterMove → Replayed
+afterCall R (done M) = record { answers = R .answers ++ (answerText (M .answer) ∷ []); state = M .state }
+afterCall R (refused n) = record { answers = R .answers ++ (printNumber n ∷ []); state = R .state }
 
 unfoldable pub callFrom : Replayed → List ℕ → Replayed
 callFrom R [] = R
-callFrom R (a ∷ es) = callFrom (after R (move (R .state) a)) es
+callFrom R (a ∷ es) = callFrom (afterCall R (move (R .state) a)) es
 
 unfoldable pub called : State → List ℕ → Replayed
 called σ es = callFrom (record { answers = []; state = σ }) es
@@ -93,5 +95,5 @@ replay w = toldOf (short (split w))
 
 -- every definition that `replay` goes through, opened together
 unfoldable pub All : Unit {0}
-unfolding Loops.All before between tokens digits token calls answerText after callFrom called replayed badToken told toldOf replay
+unfolding Loops.All before between tokens digitCalls token calls answerText afterCall callFrom called replayed badToken told toldOf replay
 All = tt

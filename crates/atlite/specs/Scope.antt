@@ -1,5 +1,7 @@
--- What is asked of a script that is of the grammar: that its variables are bound (cause 3), and that no list names one thing
--- twice (cause 4), a method being named by its signature. Assumes nothing.
+-- What is asked of a script that is of the grammar. Assumes nothing.
+--
+-- Document 01, "Script text", the paragraph on binding, and causes 3 and 4: that variables are bound, and that no list names one thing
+-- twice, a method being named by its signature.
 use Prim.Native.Nat.{ℕ}
 use mathlib.Core.Bool.{Bool, true, _&&_, not}
 use mathlib.Core.List.{List, [], _∷_, _++_}

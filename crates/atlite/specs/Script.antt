@@ -1,5 +1,7 @@
--- A script as it is written: its expressions and lines before anything is expanded, their nodes, and the one expression that
--- the lines mean together. Names are word numbers, so a script is read with a dictionary beside it. Assumes nothing.
+-- A script as it is written. Assumes nothing.
+--
+-- Document 01, "Script text": the expressions and lines of a script before anything is expanded, their nodes, and the one expression that
+-- the lines mean together. Names are word numbers, so a script is read with a dictionary beside it.
 use Prim.Native.Nat.{ℕ, suc, _+_}
 use mathlib.Core.List.{List, [], _∷_}
 use Rattle.atlite.specs.Base.{Result, done, refused, _>>=_}

@@ -1,5 +1,7 @@
--- Reading a text into its table, the first cause from 1 to 5 that refuses it, and which words and lines are a table: those
--- that the reader gives for some text, stated without a reader. Assumes nothing.
+-- Reading a text into its table, and which words and lines are a table. Assumes nothing.
+--
+-- Document 01, causes 1 to 5 in their order, and of 7 what a table of an accepted text is: `IsTable` says it without a reader. That the reader
+-- takes exactly those is a law (`read-exact` of crate `reading`).
 use Prim.Native.Nat.{ℕ, suc, _≤_, _<_}
 use mathlib.Core.Bool.{Bool, true, _&&_, _||_}
 use mathlib.Core.List.{List, [], _∷_}

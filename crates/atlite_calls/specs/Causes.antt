@@ -10,7 +10,7 @@ use lib.Dec.{eqb, leb}
 use Rattle.atlite.specs.Base.{Result, done, refused, _>>=_, _>>_, orRefuse, require, if_then_else_}
 use Rattle.atlite.specs.Term.{made, Series, Value, null, num, ref, Name, plain, twoWay, resolve, register, Kind, isolate, actor, Op, plus, percent, choose, get, set, call, send, Term, val, var, op, letIn, literal, Terms, nil, cons, Inits, Methods, noMethod, method, valuesOf, isValue, sameSignature}
 use Rattle.atlite.specs.State.{Message, message, Entity, object, future, resolver, Actor, State, withInbox, fieldOf}
-use Rattle.atlite.specs.Outcome.{Copy, entity, own, namesFuture}
+use Rattle.atlite.specs.Outcome.{Copy, entity, ownEntity, namesFuture}
 use Rattle.atlite.specs.Passing.{meet, reach, heldValues, isolatesFor}
 use Rattle.atlite.specs.Rules.{oneOf, pairOf, receiverOf, asNumber, number, plusRule, percentRule, sameRule, choice, chooseRule, makeRule, newRule, fieldsOf, getRule, setRule, methodsOf, invoke, callRule, futureRule, ownerlessRule, sendRule, resolves, openFuture, resolveRule, callByName, operate, rule}
 use Rattle.atlite.specs.Redex.{redex}
@@ -50,8 +50,8 @@ entity-caused : (A : Actor) (s : Series) (n : ℕ) → Caused (entity A s n)
 unfolding entity
 entity-caused A s n = asked 12 _ refl
 
-own-caused : (a : ℕ) (A : Actor) (v : Value) → Caused (own a A v)
-unfolding own
+own-caused : (a : ℕ) (A : Actor) (v : Value) → Caused (ownEntity a A v)
+unfolding ownEntity
 own-caused a A null = stopped refl
 own-caused a A (num n) = stopped refl
 own-caused a A (ref b s n) = tested 11 (eqb a b) refl (entity-caused A s n)

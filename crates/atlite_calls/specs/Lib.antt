@@ -1,5 +1,5 @@
 -- the numbers of the answers
-pub mod Numbers
+pub mod NumberLaws
 -- which numbers there are
 pub mod Causes
 pub mod Reading

@@ -7,9 +7,9 @@ use native.Mathlib.Omega.{arith}
 use lib.Dec.{leb}
 use borrow.Author.Tests.{leb-true}
 use Rattle.atlite.specs.Base.{Result, isDone}
-use Rattle.atlite.specs.Facts.{and₂}
-use Rattle.layout.specs.Meaning.{answered, room, tableIn, stateIn, lent, readCall, printCall, loadCall, moveCall, runCall, listCall}
-use Rattle.atlite_calls.specs.Numbers.{cause}
+use Rattle.atlite_laws.specs.Facts.{and₂}
+use Rattle.promises.specs.Meaning.{answered, room, tableIn, stateIn, lent, readCall, printCall, loadCall, moveCall, runCall, listCall}
+use Rattle.promises.specs.CallNumbers.{cause}
 use Rattle.atlite_calls.specs.Causes.{isCause, Caused, fine, stopped, asked, next, tested, move-caused}
 use Rattle.atlite_calls.specs.Reading.{read-caused, load-caused}
 

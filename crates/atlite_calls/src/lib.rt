@@ -3,8 +3,8 @@
 // Each function returns a number: 0 where the call was done, else document 01's number of the cause. Lengths, counts and the kind of a
 // move go to places that the caller lends. None asks anything of the words and bytes that it is lent.
 ghost use mathlib.Core.Path.{_≡_};
-ghost use Rattle.layout.specs.Meaning.{readCall, printCall, loadCall, moveCall, runCall, listCall};
-ghost use Rattle.atlite_calls.specs.Numbers.{cause, place, itself, kindOf, otherOf, movesOf, refusalsOf};
+ghost use Rattle.promises.specs.Meaning.{readCall, printCall, loadCall, moveCall, runCall, listCall};
+ghost use Rattle.promises.specs.CallNumbers.{cause, place, itself, kindOf, otherOf, movesOf, refusalsOf};
 use atlite::ActorNo;
 use atlite::Listed;
 use atlite::Loaded;

@@ -11,7 +11,7 @@ use lib.Dec.{eqb}
 use lib.ListN.{getElem?}
 use borrow.Author.Tests.{ne-eqb}
 use Rattle.atlite.specs.Base.{require, bytes, if_then_else_}
-use Rattle.atlite.specs.Laws.{same-value, value-same}
+use Rattle.atlite_laws.specs.Laws.{same-value, value-same}
 use Rattle.atlite.specs.Lexicon.{isWord}
 use Rattle.atlite.specs.Replay.{All}
 use Rattle.atlite.specs.Term.{Value, null, num, ref, Op, same, choose, Term, val, var, op, letIn, future, literal, cons, two, demanded, areValues, valueOf, valuesOf, isValue}

@@ -9,11 +9,12 @@ use lib.ListN.{length}
 use lib.Dec.{eqb}
 use borrow.Author.Tests.{eqb-true}
 use Rattle.atlite.specs.Base.{done, refused, any, distinctBy, if_then_else_}
-use Rattle.atlite.specs.Facts.{and₂, both₂, not-true, eqb-same}
+use Rattle.atlite_laws.specs.Facts.{and₂, both₂, not-true, eqb-same}
 use Rattle.atlite.specs.Term.{this, Value, null, plain, twoWay, call, Term, val, op, Methods, noMethod, method, Signature, sameSignature, signatures, values, valueOf, valuesOf}
 use Rattle.atlite.specs.Subst.{subst, substParams}
 use Rattle.atlite.specs.State.{Actor}
-use Rattle.atlite.specs.Expansion.{resolvingWith}
+use Rattle.atlite.specs.Subst.{subst}
+use Rattle.atlite.specs.Expansion.{resolving}
 use Rattle.atlite.specs.Rules.{invoke, callRule, callByName, receiverOf, operate, rule}
 use Rattle.atlite.specs.Move.{initOf, lastOf, process}
 
@@ -147,6 +148,6 @@ last-of (v ∷ []) r = refl
 last-of (v ∷ w ∷ vs) r = last-of (w ∷ vs) r
 
 pub two-way-calls : (v : Value) (m : ℕ) (vs : List Value) (r : Value)
-    → process v (twoWay m) (vs ++ (r ∷ [])) ≡ resolvingWith (val null) (val r) (op (call (plain m)) (values (v ∷ vs)))
+    → process v (twoWay m) (vs ++ (r ∷ [])) ≡ subst this (val null) (resolving (val r) (op (call (plain m)) (values (v ∷ vs))))
 unfolding process
 two-way-calls v m vs r = rw (init-of vs r, last-of vs r) refl

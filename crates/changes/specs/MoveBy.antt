@@ -13,10 +13,10 @@ use Rattle.atlite.specs.Redex.{redex}
 use Rattle.atlite.specs.Outcome.{Outcome}
 use Rattle.atlite.specs.Rules.{operate, rule}
 use Rattle.atlite.specs.Limits.{Bounds, full}
-use Rattle.atlite.specs.Move.{takeRule, turn, free, Answer, Moved, limited, moveWithin, move}
-use Rattle.atlite.specs.Run.{Counts, Ran, begun, after, runFrom, run}
+use Rattle.atlite.specs.Move.{takeRule, turn, free, Answer, AfterMove, limited, moveWithin, move}
+use Rattle.atlite.specs.Run.{Counts, AfterRun, begun, afterEntry, runFrom, run}
 use Rattle.layout.specs.Layout.{encode}
-use Rattle.layout.specs.Meaning.{Reply, answered, lent, moveCall, runCall}
+use Rattle.promises.specs.Meaning.{Reply, answered, lent, moveCall, runCall}
 
 abbrev pub Rule : Type 0
 Rule = List Actor → ℕ → Actor → Term → Result Outcome
@@ -68,18 +68,18 @@ rule-present s a A (literal k fs ms) = refl
 unfoldable pub turnBy : Rule → List Actor → ℕ → Actor → Result Outcome
 turnBy R s a A = if isValue (A .expr) then takeRule a A (A .inbox) else R s a A (redex (A .expr))
 
-unfoldable pub moveBy : Rule → Bounds → State → ℕ → Result Moved
+unfoldable pub moveBy : Rule → Bounds → State → ℕ → Result AfterMove
 moveBy R B σ a = do
   A ← orRefuse 8 (getElem? (σ .actors) a)
   E ← turnBy R (σ .actors) a A
   limited B σ a E
 
 -- the entries of a schedule
-unfoldable pub runFromBy : Rule → Ran → List ℕ → Ran
+unfoldable pub runFromBy : Rule → AfterRun → List ℕ → AfterRun
 runFromBy R r [] = r
-runFromBy R r (a ∷ es) = runFromBy R (after r (moveBy R full (r .state) a)) es
+runFromBy R r (a ∷ es) = runFromBy R (afterEntry r (moveBy R full (r .state) a)) es
 
-unfoldable pub runBy : Rule → State → List ℕ → Ran
+unfoldable pub runBy : Rule → State → List ℕ → AfterRun
 runBy R σ es = runFromBy R (begun σ) es
 
 -- the calls, on lent words
@@ -118,10 +118,10 @@ pub redex-agrees : (R : Rule) (B : Bounds) (σ : State) (a : ℕ)
 unfolding turnBy
 redex-agrees R B σ a h = move-agrees R rule B σ a (λ A e. ap (λ r. if isValue (A .expr) then takeRule a A (A .inbox) else r) (h A e)) ∙ move-now B σ a
 
-from-now : (R : Ran) (es : List ℕ) → runFromBy rule R es ≡ runFrom R es
+from-now : (R : AfterRun) (es : List ℕ) → runFromBy rule R es ≡ runFrom R es
 unfolding runFromBy runFrom move
 from-now R [] = refl
-from-now R (a ∷ es) = ap (λ m. runFromBy rule (after R m) es) (move-now full (R .state) a) ∙ from-now (after R (move (R .state) a)) es
+from-now R (a ∷ es) = ap (λ m. runFromBy rule (afterEntry R m) es) (move-now full (R .state) a) ∙ from-now (afterEntry R (move (R .state) a)) es
 
 pub run-now : (σ : State) (es : List ℕ) → runBy rule σ es ≡ run σ es
 unfolding runBy run
@@ -129,21 +129,21 @@ run-now σ es = from-now (begun σ) es
 
 -- ---- a kind of states that moves stay in
 abbrev pub Kept : (State → Type 0) → Type 0
-Kept K = (B : Bounds) (σ : State) (a : ℕ) (M : Moved) → K σ → moveWithin B σ a ≡ done M → K (M .state)
+Kept K = (B : Bounds) (σ : State) (a : ℕ) (M : AfterMove) → K σ → moveWithin B σ a ≡ done M → K (M .state)
 
 module _ (K : State → Type 0) (k : Kept K) where
-  after-kept : (r : Ran) (a : ℕ) → K (r .state) → K (after r (move (r .state) a) .state)
-  unfolding after move
+  after-kept : (r : AfterRun) (a : ℕ) → K (r .state) → K (afterEntry r (move (r .state) a) .state)
+  unfolding afterEntry move
   after-kept r a h = go (move (r .state) a) refl
     where
-      go : (m : Result Moved) → move (r .state) a ≡ m → K (after r m .state)
+      go : (m : Result AfterMove) → move (r .state) a ≡ m → K (afterEntry r m .state)
       go (refused n) e = h
       go (done M) e = k full (r .state) a M h e
 
-  from-kept : (r : Ran) (es : List ℕ) → K (r .state) → K (runFrom r es .state)
+  from-kept : (r : AfterRun) (es : List ℕ) → K (r .state) → K (runFrom r es .state)
   unfolding runFrom
   from-kept r [] h = h
-  from-kept r (a ∷ es) h = from-kept (after r (move (r .state) a)) es (after-kept r a h)
+  from-kept r (a ∷ es) h = from-kept (afterEntry r (move (r .state) a)) es (after-kept r a h)
 
   -- runs stay in it too,
   pub run-kept : (σ : State) (es : List ℕ) → K σ → K (run σ es .state)
@@ -152,10 +152,10 @@ module _ (K : State → Type 0) (k : Kept K) where
 
   -- and a rule that makes the present moves in it:
   module _ (R : Rule) (same : (B : Bounds) (σ : State) (a : ℕ) → K σ → moveBy R B σ a ≡ moveWithin B σ a) where
-    from-same : (r : Ran) (es : List ℕ) → K (r .state) → runFromBy R r es ≡ runFrom r es
+    from-same : (r : AfterRun) (es : List ℕ) → K (r .state) → runFromBy R r es ≡ runFrom r es
     unfolding runFromBy runFrom move
     from-same r [] h = refl
-    from-same r (a ∷ es) h = ap (λ m. runFromBy R (after r m) es) (same full (r .state) a h) ∙ from-same (after r (move (r .state) a)) es (after-kept r a h)
+    from-same r (a ∷ es) h = ap (λ m. runFromBy R (afterEntry r m) es) (same full (r .state) a h) ∙ from-same (afterEntry r (move (r .state) a)) es (after-kept r a h)
 
     -- its runs make and refuse as many moves and end in the same state,
     pub run-same : (σ : State) (es : List ℕ) → K σ → runBy R σ es ≡ run σ es
@@ -177,4 +177,4 @@ module _ (K : State → Type 0) (k : Kept K) where
 
       pub run-call-same : (es : List ℕ) → runCallBy R w es ≡ runCall w es
       unfolding runCallBy runCall
-      run-call-same es = calls-agree _ _ λ σ i. ap (λ (r : Ran). done (r .counts, encode (r .state))) (run-same σ es i)
+      run-call-same es = calls-agree _ _ λ σ i. ap (λ (r : AfterRun). done (r .counts, encode (r .state))) (run-same σ es i)

@@ -11,20 +11,20 @@ use lib.ListN.{length}
 use lib.Dec.{eqb}
 use borrow.Author.Tests.{eqb-true}
 use Rattle.atlite.specs.Base.{Result, done, refused, _>>=_, _>>_, require, any, distinct, distinctBy, member, if_then_else_}
-use Rattle.atlite.specs.Facts.{and₂, both₂, not-true, Every, holds, nothing, every-of, every-weaken}
+use Rattle.atlite_laws.specs.Facts.{and₂, both₂, not-true, Every, holds, nothing, every-of, every-weaken}
 use Rattle.atlite.specs.Term.{this, ·t, ·x, apply, Value, null, Name, plain, twoWay, resolve, register, Op, shape, Term, val, var, Terms, Methods, noMethod, method, Signature, sameSignature, signatures, valuesOf}
 use Rattle.atlite.specs.Subst.{Subst, subst, substParams}
 use Rattle.atlite.specs.State.{Actor, State}
 use Rattle.atlite.specs.Redex.{redex}
-use Rattle.atlite.specs.Outcome.{inner, Outcome, becomes, own}
+use Rattle.atlite.specs.Outcome.{inner, Outcome, becomes, ownEntity}
 use Rattle.atlite.specs.Rules.{methodsOf, invoke, callRule, callByName, receiverOf, operate, rule}
 use Rattle.atlite.specs.Limits.{Bounds}
-use Rattle.atlite.specs.Move.{Moved, moveWithin}
+use Rattle.atlite.specs.Move.{AfterMove, moveWithin}
 use Rattle.atlite.specs.Run.{run}
 use Rattle.atlite.specs.Table.{Table}
 use Rattle.atlite.specs.Load.{load}
-use Rattle.layout.specs.Kinds.{Row, isBare, isField, isCall, isSend, row}
-use Rattle.layout.specs.Meaning.{lent, moveCall, runCall}
+use Rattle.layout_laws.specs.KindRows.{Row, isBare, isField, isCall, isSend, row}
+use Rattle.promises.specs.Meaning.{lent, moveCall, runCall}
 use Rattle.changes.specs.MoveBy.{Rule, moveBy, runBy, moveCallBy, runCallBy, redex-agrees, run-kept, run-same, move-call-same, run-call-same, Operators, present, ruleOf, byMessage, each-rule, rule-present}
 use Rattle.changes.specs.Throughout.{Allows, AnyOperator}
 use Rattle.changes.specs.ThroughoutMoves.{ThroughoutActor, ThroughoutState, all-at, own-throughout, methods-throughout, move-throughout}
@@ -43,7 +43,7 @@ invokeBefore (method k xs e M) m v vs =
 -- ---- a rule by any look-up
 unfoldable pub callBy : LookUp → ℕ → Actor → Value → ℕ → List Value → Result Outcome
 callBy I a A v m vs = do
-  o ← own a A v
+  o ← ownEntity a A v
   M ← methodsOf o
   e ← I M m v vs
   becomes inner A e
@@ -71,7 +71,7 @@ then-same (holds {a} p) k = k a p
 then-same nothing k = refl
 
 abbrev Finds : LookUp → ℕ → Actor → Type 0
-Finds I a A = (v : Value) → Every (λ o. Every (λ M. (m : ℕ) (vs : List Value) → I M m v vs ≡ invoke M m v vs) (methodsOf o)) (own a A v)
+Finds I a A = (v : Value) → Every (λ o. Every (λ M. (m : ℕ) (vs : List Value) → I M m v vs ≡ invoke M m v vs) (methodsOf o)) (ownEntity a A v)
 
 module _ (I : LookUp) (s : List Actor) (a : ℕ) (A : Actor) (h : Finds I a A) where
   call-same : (v : Value) (m : ℕ) (vs : List Value) → callBy I a A v m vs ≡ callRule a A v m vs
@@ -103,7 +103,7 @@ module _ (I : LookUp) (s : List Actor) (a : ℕ) (A : Actor) (h : Finds I a A) w
 -- so by the present look-up it is the present rule
 pub look-up-now : (B : Bounds) (σ : State) (a : ℕ) → moveBy (ruleBy invoke) B σ a ≡ moveWithin B σ a
 look-up-now B σ a = redex-agrees (ruleBy invoke) B σ a λ A _.
-    rule-same invoke (σ .actors) a A (λ v. every-of (own a A v) λ o _. every-of (methodsOf o) λ M _ m vs. refl) (redex (A .expr))
+    rule-same invoke (σ .actors) a A (λ v. every-of (ownEntity a A v) λ o _. every-of (methodsOf o) λ M _ m vs. refl) (redex (A .expr))
 
 -- ---- lists of methods that have no name twice
 abbrev pub names : List Signature → List ℕ
@@ -169,7 +169,7 @@ unfolding distinctBy any
 once-formed = record { sets = λ f. tt; calls = λ m. tt; sends = λ m. tt; function = λ s. refl }
 
 -- A move of such a state leaves such a state,
-pub move-once : (B : Bounds) (σ : State) (a : ℕ) (M : Moved) → OnceState σ → moveWithin B σ a ≡ done M → OnceState (M .state)
+pub move-once : (B : Bounds) (σ : State) (a : ℕ) (M : AfterMove) → OnceState σ → moveWithin B σ a ≡ done M → OnceState (M .state)
 move-once = move-throughout AnyOperator Once once-formed
 
 -- and it is the move by the former rule, refusals too.

@@ -8,18 +8,18 @@ use mathlib.Core.Logic.{_↔_}
 use lib.ListN.{length, length-map}
 use lib.Dec.{eqb}
 use Rattle.atlite.specs.Base.{done, all}
-use Rattle.atlite.specs.Facts.{Every, holds, every-done}
+use Rattle.atlite_laws.specs.Facts.{Every, holds, every-done}
 use Rattle.atlite.specs.Term.{Signature, sameSignature}
 use Rattle.atlite.specs.State.{State}
 use Rattle.atlite.specs.Limits.{Bounds, full}
-use Rattle.atlite.specs.Move.{Moved, moveWithin, move}
+use Rattle.atlite.specs.Move.{AfterMove, moveWithin, move}
 use Rattle.atlite.specs.Run.{run}
-use Rattle.atlite.specs.Laws.{few-are, are-few}
+use Rattle.atlite_laws.specs.Laws.{few-are, are-few}
 use Rattle.atlite.specs.Valid.{isName, fewDistinct, IsState}
 use Rattle.invariant.specs.Moves.{move-keeps, run-keeps}
 use Rattle.layout.specs.Layout.{encode}
-use Rattle.layout.specs.Meaning.{lent, moveCall, runCall}
-use Rattle.layout.specs.MeaningLaws.{lent-state}
+use Rattle.promises.specs.Meaning.{lent, moveCall, runCall}
+use Rattle.layout_laws.specs.MeaningLaws.{lent-state}
 use Rattle.changes.specs.MoveBy.{moveBy, runBy, moveCallBy, runCallBy}
 use Rattle.changes.specs.NamesOnce.{names, Once, once-distinct, OnceState, ruleBefore, move-once, move-as-before, run-once, run-as-before, move-call-as-before, run-call-as-before}
 use Rattle.changes.specs.Throughout.{AnyOperator}
@@ -69,7 +69,7 @@ module _ (σ : State) (h : FormerState σ) where
   pub former-state-runs-as-before : (es : List ℕ) → runBy ruleBefore σ es ≡ run σ es
   former-state-runs-as-before es = run-as-before σ es (former-state σ .0 h .1)
 
-  pub former-move-keeps : (a : ℕ) (M : Moved) → move σ a ≡ done M → FormerState (M .state)
+  pub former-move-keeps : (a : ℕ) (M : AfterMove) → move σ a ≡ done M → FormerState (M .state)
   unfolding move
   former-move-keeps a M e = let r = former-state σ .0 h in former-state (M .state) .1 (move-keeps σ a M (r .0) e, move-once full σ a M (r .1) e)
 

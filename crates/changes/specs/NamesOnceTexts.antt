@@ -11,7 +11,7 @@ use mathlib.Core.Logic.{_⊎_, inl, inr, ⊎-elim}
 use lib.ListN.{length}
 use lib.Dec.{eqb, leb, ltb}
 use Rattle.atlite.specs.Base.{Result, isDone, done, refused, _>>=_, _>>_, require, distinct, distinctBy, bytes}
-use Rattle.atlite.specs.Facts.{and₂, and₃, and₄, both₂, both₃, both₄, refused-done, Every, holds, every-done, given, every-bind, checked}
+use Rattle.atlite_laws.specs.Facts.{and₂, and₃, and₄, both₂, both₃, both₄, refused-done, Every, holds, every-done, given, every-bind, checked}
 use Rattle.atlite.specs.Term.{Signature, sameSignature}
 use Rattle.atlite.specs.State.{State}
 use Rattle.atlite.specs.Keywords.{Operator, operators}
@@ -25,8 +25,8 @@ use Rattle.atlite.specs.Run.{run}
 use Rattle.atlite.specs.Replay as P
 use Rattle.reading.specs.Exact.{read-table}
 use Rattle.layout.specs.Tables.{encodeTable}
-use Rattle.layout.specs.Meaning.{tableIn}
-use Rattle.layout.specs.MeaningLaws.{table-lent}
+use Rattle.promises.specs.Meaning.{tableIn}
+use Rattle.layout_laws.specs.MeaningLaws.{table-lent}
 use Rattle.changes.specs.MoveBy.{runBy}
 use Rattle.changes.specs.ThroughoutLoads.{AnyWritten, ThroughoutSrc, ThroughoutSrcs, ThroughoutFields, ThroughoutWritten, lines-throughout}
 use Rattle.changes.specs.NamesOnce.{names, Once, once-distinct, OnceTable, ruleBefore, script-as-before}

@@ -11,7 +11,7 @@ use mathlib.Core.Option.{Option, none, some}
 use lib.ListN.{length, getElem?}
 use lib.Dec.{ltb}
 use Rattle.atlite.specs.Base.{Result, done, refused, _>>=_, _>>_, orRefuse, require, if_then_else_}
-use Rattle.atlite.specs.Facts.{refused-done}
+use Rattle.atlite_laws.specs.Facts.{refused-done}
 use Rattle.atlite.specs.Term.{Value, null, num, ref, Name, plain, twoWay, resolve, register, Op, send, shape, Term, val, op, Terms, valuesOf, isValue}
 use Rattle.atlite.specs.State.{message, Actor, State}
 use Rattle.atlite.specs.Redex.{redex}
@@ -19,10 +19,10 @@ use Rattle.atlite.specs.Outcome.{inner, sends, Outcome, becomes}
 use Rattle.atlite.specs.Passing.{isolatesFor}
 use Rattle.atlite.specs.Rules.{sendApply, forward, ownerlessRule, sendRule, receiverOf, operate, rule}
 use Rattle.atlite.specs.Limits.{Bounds, full}
-use Rattle.atlite.specs.Move.{Answer, Moved, limited, moveWithin, move}
-use Rattle.layout.specs.Kinds.{Row, isBare, isField, isCall, isSend, row}
+use Rattle.atlite.specs.Move.{Answer, AfterMove, limited, moveWithin, move}
+use Rattle.layout_laws.specs.KindRows.{Row, isBare, isField, isCall, isSend, row}
 use Rattle.layout.specs.Layout.{encode}
-use Rattle.layout.specs.Meaning.{Reply, answered, lent, moveCall}
+use Rattle.promises.specs.Meaning.{Reply, answered, lent, moveCall}
 use Rattle.changes.specs.MoveBy.{turnBy, moveBy, moveCallBy, redex-agrees, Rule, Operators, present, ruleOf, byMessage, each-rule, rule-present}
 
 -- ---- what null takes
@@ -156,7 +156,7 @@ module _ (B : Bounds) (σ : State) (a : ℕ) where
   move-was = transp (Was (NullAsked σ a) (moveBy (ruleBy sendBefore) B σ a)) (send-now B σ a) by-was
 
   -- a move that was made is made
-  pub made-as-before : (M : Moved) → moveBy (ruleBy sendBefore) B σ a ≡ done M → moveWithin B σ a ≡ done M
+  pub made-as-before : (M : AfterMove) → moveBy (ruleBy sendBefore) B σ a ≡ done M → moveWithin B σ a ≡ done M
   made-as-before M e = go move-was
     where
       go : Was (NullAsked σ a) (moveBy (ruleBy sendBefore) B σ a) (moveWithin B σ a) → moveWithin B σ a ≡ done M
@@ -164,10 +164,10 @@ module _ (B : Bounds) (σ : State) (a : ℕ) where
       go (stopped p d) = absurd (refused-done (sym d ∙ e))
 
 -- ---- the call: the same answer and the same words
-abbrev reply : List ℕ → Result Moved → Reply Answer
+abbrev reply : List ℕ → Result AfterMove → Reply Answer
 reply w R = answered w (R >>= λ M. done (M .answer, encode (M .state)))
 
-reply-same : (w : List ℕ) (r : Answer) (old new : Result Moved) → ((M : Moved) → old ≡ done M → new ≡ done M) → reply w old .result ≡ done r → reply w new ≡ reply w old
+reply-same : (w : List ℕ) (r : Answer) (old new : Result AfterMove) → ((M : AfterMove) → old ≡ done M → new ≡ done M) → reply w old .result ≡ done r → reply w new ≡ reply w old
 unfolding answered
 reply-same w r (refused n) new h e = absurd (refused-done e)
 reply-same w r (done M) new h e = ap (reply w) (h M refl)

@@ -11,7 +11,7 @@ use Rattle.atlite.specs.Base.{member}
 use Rattle.atlite.specs.Term.{this, made, Value, Name, Op, Term, val, var, op, letIn, literal, Terms, nil, cons, Inits, noField, Methods, noMethod, method, countTerms, initNames, Signature, signatures, seen}
 use Rattle.atlite.specs.State.{Entity, object, future, resolver, Actor, State, isFuture, isIsolate, fieldNames}
 use Rattle.atlite.specs.Limits.{full, withinLimits}
-use Rattle.atlite.specs.Valid.{All, Each, isVariable, fieldsNamed, methodsNamed, parameters, operable, wordsHold, MayHold, Held, WellFormed, WellFormedAll, WellFormedInits, WellFormedMethods, Arrived, HeldBy, FieldsHeld, IsEntity, IsActor, IsState}
+use Rattle.atlite.specs.Valid.{AllOf, Each, isVariable, fieldsNamed, methodsNamed, parameters, operable, wordsHold, MayHold, Held, WellFormed, WellFormedAll, WellFormedInits, WellFormedMethods, Arrived, HeldBy, FieldsHeld, IsEntity, IsActor, IsState}
 use Rattle.changes.specs.Throughout.{AnyOperator, Throughout, ThroughoutAll, ThroughoutInits, ThroughoutBodies}
 use Rattle.changes.specs.ThroughoutMoves.{ThroughoutEntity, ThroughoutActor, ThroughoutState, all-at}
 
@@ -49,7 +49,7 @@ module _ (H : ℕ → List Signature → Type 0) where
   pub record IsActorBy (w : ℕ) (P : Value → Type 0) (φ : Value → Bool) (a : ℕ) (A : Actor) : Type 0 where
     pub made : Each (IsEntityBy w P φ a) (A .made)
     pub copied : Each (λ n o. (isIsolate o ≡ true) × IsEntityBy w P φ a n o) (A .copied)
-    pub inbox : All (Arrived w P a) (A .inbox)
+    pub inbox : AllOf (Arrived w P a) (A .inbox)
     pub expr : WellFormedBy (A .expr) w P []
 
   pub record IsStateBy (σ : State) : Type 0 where
@@ -114,7 +114,7 @@ state-now σ = (
 )
 
 -- ---- the condition holds of every list of methods of such a state
-each-all : {X : Type 0} (Q : X → Type 0) (l : List X) → Each (λ n x. Q x) l → All Q l
+each-all : {X : Type 0} (Q : X → Type 0) (l : List X) → Each (λ n x. Q x) l → AllOf Q l
 each-all Q [] h = tt
 each-all Q (x ∷ l) h = (h 0 x refl, each-all Q l (λ n y e. h (suc n) y e))
 

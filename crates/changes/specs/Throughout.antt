@@ -6,12 +6,12 @@ use mathlib.Core.List.{List, [], _∷_}
 use lib.ListN.{length}
 use lib.Dec.{eqb}
 use Rattle.atlite.specs.Base.{member}
-use Rattle.atlite.specs.Facts.{Every, holds, nothing, every-if}
+use Rattle.atlite_laws.specs.Facts.{Every, holds, nothing, every-if}
 use Rattle.atlite.specs.Term.{this, ·t, ·r, ·x, Value, null, Name, plain, twoWay, resolve, register, Op, set, call, send, Term, val, var, op, letIn, future, literal, Terms, nil, cons, Inits, noField, field, Methods, noMethod, method, two, Signature, sameSignature, signatures, values, isValue}
 use Rattle.atlite.specs.Subst.{subst, substAll, substInits, substMethods, substParams, enters}
 use Rattle.atlite.specs.Redex.{ready, redex, redexAmong, plug, plugAmong}
 use Rattle.atlite.specs.State.{Message, message}
-use Rattle.atlite.specs.Expansion.{functionWith, resolvingWith}
+use Rattle.atlite_laws.specs.Closures.{functionWith, resolvingWith, two-way}
 use Rattle.atlite.specs.Rules.{choice, updates, invoke, forward, forwardAll}
 use Rattle.atlite.specs.Move.{initOf, lastOf, process}
 use Rattle.invariant.specs.Terms.{chosen, methods-named}
@@ -172,7 +172,7 @@ module _ (Q : Op Name → Type 0) (L : List Signature → Type 0) where
     pub process-throughout : (v : Value) (m : Name) (vs : List Value) → Throughout (process v m vs)
     unfolding process
     process-throughout v (plain m) vs = (K .calls _, values-throughout (v ∷ vs))
-    process-throughout v (twoWay m) vs = resolving-throughout (val null) (val (lastOf vs)) _ tt tt (K .calls _, values-throughout (v ∷ initOf vs))
+    process-throughout v (twoWay m) vs = rw (two-way v m vs) (resolving-throughout (val null) (val (lastOf vs)) _ tt tt (K .calls _, values-throughout (v ∷ initOf vs)))
     process-throughout v resolve vs = (K .calls _, values-throughout (v ∷ vs))
     process-throughout v register vs = forward-throughout v register vs
 

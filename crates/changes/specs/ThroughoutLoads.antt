@@ -4,16 +4,17 @@ use Prim.Native.Nat.{ℕ}
 use mathlib.Core.Path.{_≡_}
 use mathlib.Core.List.{List, [], _∷_}
 use Rattle.atlite.specs.Base.{done}
-use Rattle.atlite.specs.Facts.{Every, holds, nothing, every-done, every-bind, checked}
+use Rattle.atlite_laws.specs.Facts.{Every, holds, nothing, every-done, every-bind, checked}
 use Rattle.atlite.specs.Term.{this, ·r, Value, Name, Op, call, written, Term, val, var, op, Terms, nil, cons, seq, two, append, one, Signature}
 use Rattle.atlite.specs.State.{State}
 use Rattle.atlite.specs.Script.{SrcOp, kept, ask, resolve, Src, Srcs, SrcFields, SrcMethods, Line, expression, define, join}
 use Rattle.atlite.specs.Scope.{signatures}
 use Rattle.atlite.specs.Expansion.{function, asking, resolving, waiting, ofTwo, expandOp, expand, expandAll, expandFields, expandMethods}
+use Rattle.atlite_laws.specs.Closures.{functionWith, resolvingWith}
 use Rattle.atlite.specs.Table.{Table}
 use Rattle.atlite.specs.Load.{start, load}
 use Rattle.atlite.specs.Limits.{withinLimits, full}
-use Rattle.atlite.specs.Valid.{All}
+use Rattle.atlite.specs.Valid.{AllOf}
 use Rattle.invariant.specs.ExpandedForms.{methods-expanded}
 use Rattle.changes.specs.Throughout.{Allows, Throughout, ThroughoutAll, ThroughoutInits, ThroughoutBodies, subst-throughout, function-throughout, resolving-throughout}
 use Rattle.changes.specs.ThroughoutMoves.{ThroughoutState}
@@ -53,10 +54,10 @@ module _ (W : SrcOp → Type 0) (L : List Signature → Type 0) where
   ThroughoutLine (define x e) = ThroughoutSrc e
 
   abbrev pub ThroughoutTable : Table → Type 0
-  ThroughoutTable T = All ThroughoutLine (T .lines)
+  ThroughoutTable T = AllOf ThroughoutLine (T .lines)
 
   -- ---- the lines as one script, both ways
-  pub join-throughout : W SrcOp.seq → (ls : List Line) → All ThroughoutLine ls → Every ThroughoutSrc (join ls)
+  pub join-throughout : W SrcOp.seq → (ls : List Line) → AllOf ThroughoutLine ls → Every ThroughoutSrc (join ls)
   unfolding join
   join-throughout w [] h = nothing
   join-throughout w (expression e ∷ []) h = holds (h .0)
@@ -64,7 +65,7 @@ module _ (W : SrcOp → Type 0) (L : List Signature → Type 0) where
   join-throughout w (expression e ∷ l ∷ ls) h = every-bind (join-throughout w (l ∷ ls) (h .1)) λ d k. holds (w, (h .0, (k, tt)))
   join-throughout w (define x e ∷ l ∷ ls) h = every-bind (join-throughout w (l ∷ ls) (h .1)) λ d k. holds (h .0, k)
 
-  pub lines-throughout : (ls : List Line) → Every (λ e. ThroughoutSrc e → All ThroughoutLine ls) (join ls)
+  pub lines-throughout : (ls : List Line) → Every (λ e. ThroughoutSrc e → AllOf ThroughoutLine ls) (join ls)
   unfolding join
   lines-throughout [] = nothing
   lines-throughout (expression e ∷ []) = holds λ h. (h, tt)
@@ -87,14 +88,14 @@ module _ (Q : Op Name → Type 0) (L : List Signature → Type 0) (K : Allows Q 
   two-throughout f (cons e (cons d es)) i h = i e d (h .0) (h .1 .0)
 
   op-throughout : (o : SrcOp) (es : Terms) → W o → ThroughoutAll Q L es → Throughout Q L (expandOp o es)
-  unfolding expandOp asking resolving
+  unfolding expandOp asking resolving function resolvingWith functionWith
   op-throughout (kept o) es w h = (k o w, h)
   op-throughout (ask m) es w h = ((K .sends _, append-throughout es (one (var ·r)) h (tt, tt)), tt)
   op-throughout resolve es w h = two-throughout resolving es (λ e d i j. resolving-throughout Q L K (var this) e d tt i j) h
   op-throughout SrcOp.seq es w h = two-throughout seq es (λ e d i j. (i, j)) h
 
   mutual
-    unfolding expand function waiting
+    unfolding expand function functionWith waiting
 
     expand-throughout : (e : Src) → ThroughoutSrc W L e → Throughout Q L (expand e)
     expand-throughout (Src.num n) h = tt

@@ -8,40 +8,40 @@ use mathlib.Core.Option.{none, some}
 use lib.ListN.{length, getElem?, set as setAt}
 use lib.Dec.{eqb, leb, ltb}
 use Rattle.atlite.specs.Base.{orRefuse, if_then_else_}
-use Rattle.atlite.specs.Facts.{none-some, Every, holds, nothing, every-done, every-of, every-bind, given, checked, every-found, every-if, found}
+use Rattle.atlite_laws.specs.Facts.{none-some, Every, holds, nothing, every-done, every-of, every-bind, given, checked, every-found, every-if, found}
 use Rattle.atlite.specs.Term.{top, Series, made, copied, Value, null, num, ref, Name, plain, twoWay, resolve, register, Op, plus, percent, same, choose, get, set, call, send, Kind, isolate, actor, Term, val, var, op, letIn, literal, Terms, Inits, Methods, Signature, valuesOf, isValue}
 use Rattle.atlite.specs.Subst.{subst}
-use Rattle.atlite.specs.State.{Message, message, Field, Tag, O, I, Entity, object, future, resolver, Actor, State, withExpr, withInbox, withMade, withCopied, counted, entityOf, withEntity, fieldOf, withField, sameValue}
+use Rattle.atlite.specs.State.{Message, message, Field, Tag, shared, isolated, Entity, object, future, resolver, Actor, State, withExpr, withInbox, withMade, withCopied, counted, entityOf, withEntity, fieldOf, withField, sameValue}
 use Rattle.atlite.specs.Redex.{redex}
-use Rattle.atlite.specs.Outcome.{Copy, copy, Parcel, Effect, inner, taken, sends, creates, Outcome, becomes, entity, own, store, namesFuture}
+use Rattle.atlite.specs.Outcome.{Copy, copy, Parcel, Effect, inner, taken, sends, creates, Outcome, becomes, entity, ownEntity, store, namesFuture}
 use Rattle.atlite.specs.Passing.{reach, enough, isolatesFor, copyOf, deliver}
 use Rattle.atlite.specs.Rules.{asNumber, number, plusRule, percentRule, sameRule, chooseRule, updates, nullFields, makeRule, newborn, newRule, fieldsOf, getRule, withFields, setRule, methodsOf, callRule, futureRule, forward, ownerlessRule, sendRule, forwardAll, resolves, openFuture, resolveRule, callByName, oneOf, pairOf, receiverOf, operate, rule}
 use Rattle.atlite.specs.Move.{process, takeTo, takeFrom, takeRule, turn, free, change, spread, moved}
-use Rattle.atlite.specs.Laws.{made-of}
-use Rattle.atlite.specs.Valid.{All}
+use Rattle.atlite_laws.specs.Laws.{made-of}
+use Rattle.atlite.specs.Valid.{AllOf}
 use Rattle.invariant.specs.Terms.{all-wider, all-append}
 use Rattle.invariant.specs.PassedIsolates.{From, reached}
 use Rattle.changes.specs.MoveBy.{Kept}
 use Rattle.changes.specs.Throughout.{Allows, Throughout, ThroughoutAll, ThroughoutInits, ThroughoutMethods, redex-throughout, plug-throughout, subst-throughout, invoke-throughout, choice-throughout, forward-throughout, forward-all-throughout, process-throughout, updates-throughout}
 
 -- ---- entries of lists
-pub all-at : {X : Type 0} (Q : X → Type 0) (l : List X) (n : ℕ) (x : X) → All Q l → getElem? l n ≡ some x → Q x
+pub all-at : {X : Type 0} (Q : X → Type 0) (l : List X) (n : ℕ) (x : X) → AllOf Q l → getElem? l n ≡ some x → Q x
 all-at Q [] n x h e = absurd (none-some e)
 all-at Q (y ∷ l) zero x h e = let u : y ≡ x = cc in transp Q u (h .0)
 all-at Q (y ∷ l) (suc n) x h e = all-at Q l n x (h .1) e
 
-all-set : {X : Type 0} (Q : X → Type 0) (l : List X) (n : ℕ) (x : X) → All Q l → Q x → All Q (setAt l n x)
+all-set : {X : Type 0} (Q : X → Type 0) (l : List X) (n : ℕ) (x : X) → AllOf Q l → Q x → AllOf Q (setAt l n x)
 all-set Q [] n x h q = tt
 all-set Q (y ∷ l) zero x h q = (q, h .1)
 all-set Q (y ∷ l) (suc n) x h q = (h .0, all-set Q l n x (h .1) q)
 
-all-change : {X : Type 0} (Q : X → Type 0) (f : X → X) (n : ℕ) (l : List X) → ((x : X) → Q x → Q (f x)) → All Q l → All Q (change f n l)
+all-change : {X : Type 0} (Q : X → Type 0) (f : X → X) (n : ℕ) (l : List X) → ((x : X) → Q x → Q (f x)) → AllOf Q l → AllOf Q (change f n l)
 unfolding change
 all-change Q f n [] k h = tt
 all-change Q f zero (x ∷ l) k h = (k x (h .0), h .1)
 all-change Q f (suc n) (x ∷ l) k h = (h .0, all-change Q f n l k (h .1))
 
-all-map : {X Y : Type 0} (P : X → Type 0) (Q : Y → Type 0) (f : X → Y) (l : List X) → ((x : X) → P x → Q (f x)) → All P l → All Q (map f l)
+all-map : {X Y : Type 0} (P : X → Type 0) (Q : Y → Type 0) (f : X → Y) (l : List X) → ((x : X) → P x → Q (f x)) → AllOf P l → AllOf Q (map f l)
 all-map P Q f [] k h = tt
 all-map P Q f (x ∷ l) k h = (k x (h .0), all-map P Q f l k (h .1))
 
@@ -53,12 +53,12 @@ module _ (Q : Op Name → Type 0) (L : List Signature → Type 0) where
   ThroughoutEntity (resolver n) = Unit {0}
 
   pub record ThroughoutActor (A : Actor) : Type 0 where
-    pub made : All ThroughoutEntity (A .made)
-    pub copied : All ThroughoutEntity (A .copied)
+    pub made : AllOf ThroughoutEntity (A .made)
+    pub copied : AllOf ThroughoutEntity (A .copied)
     pub expr : Throughout Q L (A .expr)
 
   abbrev pub ThroughoutState : State → Type 0
-  ThroughoutState σ = All ThroughoutActor (σ .actors)
+  ThroughoutState σ = AllOf ThroughoutActor (σ .actors)
 
   -- ---- an actor that moves
   -- what goes out from it, and what it becomes
@@ -68,7 +68,7 @@ module _ (Q : Op Name → Type 0) (L : List Signature → Type 0) where
   abbrev pub ThroughoutEffect : Effect → Type 0
   ThroughoutEffect inner = Unit {0}
   ThroughoutEffect taken = Unit {0}
-  ThroughoutEffect (sends p) = All ThroughoutCopy (p .copies)
+  ThroughoutEffect (sends p) = AllOf ThroughoutCopy (p .copies)
   ThroughoutEffect (creates B) = ThroughoutActor B
 
   abbrev pub ThroughoutOutcome : Outcome → Type 0
@@ -99,8 +99,8 @@ module _ (Q : Op Name → Type 0) (L : List Signature → Type 0) where
     entity-at made n o e = all-at ThroughoutEntity (A .made) n o (h .made) e
     entity-at copied n o e = all-at ThroughoutEntity (A .copied) n o (h .copied) e
 
-    pub own-throughout : (a : ℕ) (v : Value) → Every ThroughoutEntity (own a A v)
-    unfolding own entity
+    pub own-throughout : (a : ℕ) (v : Value) → Every ThroughoutEntity (ownEntity a A v)
+    unfolding ownEntity entity
     own-throughout a null = nothing
     own-throughout a (num n) = nothing
     own-throughout a (ref b r n) = checked 11 (eqb a b) λ _. every-of (orRefuse 12 (entityOf A r n)) λ o e. entity-at r n o (found 12 (entityOf A r n) o e)
@@ -112,17 +112,17 @@ module _ (Q : Op Name → Type 0) (L : List Signature → Type 0) where
     store-throughout (ref b made n) o k = record { made = all-set ThroughoutEntity (A .made) n o (h .made) k; copied = h .copied; expr = h .expr }
     store-throughout (ref b copied n) o k = record { made = h .made; copied = all-set ThroughoutEntity (A .copied) n o (h .copied) k; expr = h .expr }
 
-    made-throughout : (l : List Entity) → All ThroughoutEntity l → ThroughoutActor (withMade A (A .made ++ l))
+    made-throughout : (l : List Entity) → AllOf ThroughoutEntity l → ThroughoutActor (withMade A (A .made ++ l))
     unfolding withMade
     made-throughout l k = record { made = all-append ThroughoutEntity (A .made) l (h .made) k; copied = h .copied; expr = h .expr }
 
-    isolates-throughout : (b a : ℕ) (vs : List Value) → Every (All ThroughoutCopy) (isolatesFor b a A vs)
+    isolates-throughout : (b a : ℕ) (vs : List Value) → Every (AllOf ThroughoutCopy) (isolatesFor b a A vs)
     unfolding isolatesFor
     isolates-throughout b a vs = every-if (eqb a b) (λ _. holds tt) λ _. every-of (reach enough a A [] vs) λ met e.
         all-wider (From a A) ThroughoutCopy met from (reached a A enough [] vs met e tt (λ new x c. tt) .from)
       where
         from : (c : Copy) → From a A c → ThroughoutCopy c
-        from (copy v F M) (r, n, i, e) = entity-at r n (object I F M) e
+        from (copy v F M) (r, n, i, e) = entity-at r n (object isolated F M) e
 
   module _ (K : Allows Q L) where
     -- ---- the rules, and take
@@ -133,7 +133,7 @@ module _ (Q : Op Name → Type 0) (L : List Signature → Type 0) where
 
       get-throughout : (v : Value) (f : ℕ) → Every ThroughoutOutcome (getRule a A v f)
       unfolding getRule
-      get-throughout v f = given (own a A v) λ o _. given (fieldsOf o) λ F _. given (orRefuse 12 (fieldOf F f)) λ w _. becomes-throughout A h inner (val w) tt tt
+      get-throughout v f = given (ownEntity a A v) λ o _. given (fieldsOf o) λ F _. given (orRefuse 12 (fieldOf F f)) λ w _. becomes-throughout A h inner (val w) tt tt
 
       set-throughout : (v : Value) (f : ℕ) (w : Value) → Every ThroughoutOutcome (setRule a A v f w)
       unfolding setRule
@@ -148,7 +148,7 @@ module _ (Q : Op Name → Type 0) (L : List Signature → Type 0) where
 
       resolve-throughout : (v : Value) (vs : List Value) → Every ThroughoutOutcome (resolveRule s a A v vs)
       unfolding resolveRule
-      resolve-throughout v vs = given (own a A v) λ o _. given (resolves o) λ n _. given (oneOf vs) λ w _. given (entity A made n) λ p _.
+      resolve-throughout v vs = given (ownEntity a A v) λ o _. given (resolves o) λ n _. given (oneOf vs) λ w _. given (entity A made n) λ p _.
           given (openFuture p) λ q _. given (namesFuture s w) λ f _. checked 14 (not f) λ _.
           let B = store A (ref a made n) (future (some w) []) in
           becomes-throughout B (store-throughout A h (ref a made n) (future (some w) []) tt) inner (forwardAll w q) tt (forward-all-throughout Q L K w q)
@@ -192,8 +192,8 @@ module _ (Q : Op Name → Type 0) (L : List Signature → Type 0) where
 
       new-throughout : (k : Kind) (fs : Inits) (ms : Methods) → ThroughoutInits Q L fs → ThroughoutMethods Q L ms → Every ThroughoutOutcome (newRule s a A k fs ms)
       unfolding newRule newborn
-      new-throughout Kind.object fs ms i k = make-throughout O fs ms i k
-      new-throughout isolate fs ms i k = make-throughout I fs ms i k
+      new-throughout Kind.object fs ms i k = make-throughout shared fs ms i k
+      new-throughout isolate fs ms i k = make-throughout isolated fs ms i k
       new-throughout actor fs ms i k = becomes-throughout A h (creates _) (val _) (record { made = (k, tt); copied = tt; expr = updates-throughout Q L K _ fs i }) tt
 
       rule-throughout : (e : Term) → Throughout Q L e → Every ThroughoutOutcome (rule s a A e)
@@ -219,14 +219,14 @@ module _ (Q : Op Name → Type 0) (L : List Signature → Type 0) where
     unfolding takeRule takeFrom withInbox
     take-throughout a A [] h = nothing
     take-throughout a A (message v m vs ∷ q) h =
-        given (own a (withInbox A q) v) λ o _. take-to-throughout (withInbox A q) (record { made = h .made; copied = h .copied; expr = h .expr }) o v m vs
+        given (ownEntity a (withInbox A q) v) λ o _. take-to-throughout (withInbox A q) (record { made = h .made; copied = h .copied; expr = h .expr }) o v m vs
 
     turn-throughout : (s : List Actor) (a : ℕ) (A : Actor) → ThroughoutActor A → Every ThroughoutOutcome (turn s a A)
     unfolding turn
     turn-throughout s a A h = every-if (isValue (A .expr)) (λ _. take-throughout a A (A .inbox) h) (λ _. rule-throughout s a A h (redex (A .expr)) (redex-throughout Q L (A .expr) (h .expr)))
 
     -- ---- what a move leaves
-    deliver-throughout : (p : Parcel) (A : Actor) → All ThroughoutCopy (p .copies) → ThroughoutActor A → ThroughoutActor (deliver p A)
+    deliver-throughout : (p : Parcel) (A : Actor) → AllOf ThroughoutCopy (p .copies) → ThroughoutActor A → ThroughoutActor (deliver p A)
     unfolding deliver copyOf withInbox withCopied
     deliver-throughout p A k h =
         let new = all-map ThroughoutCopy ThroughoutEntity (copyOf (p .copies) (p .to) (length (A .copied))) (p .copies) one k in
@@ -235,14 +235,14 @@ module _ (Q : Op Name → Type 0) (L : List Signature → Type 0) where
         one : (c : Copy) → ThroughoutCopy c → ThroughoutEntity (copyOf (p .copies) (p .to) (length (A .copied)) c)
         one (copy v F M) i = i
 
-    spread-throughout : (f : Effect) (s : List Actor) → ThroughoutEffect f → All ThroughoutActor s → All ThroughoutActor (spread f s)
+    spread-throughout : (f : Effect) (s : List Actor) → ThroughoutEffect f → AllOf ThroughoutActor s → AllOf ThroughoutActor (spread f s)
     unfolding spread
     spread-throughout inner s k h = h
     spread-throughout taken s k h = h
     spread-throughout (sends p) s k h = all-change ThroughoutActor (deliver p) (p .to) s (λ A. deliver-throughout p A k) h
     spread-throughout (creates B) s k h = all-append ThroughoutActor s (B ∷ []) h (k, tt)
 
-    free-throughout : (s : List Actor) (a : ℕ) → All ThroughoutActor s → Every ThroughoutOutcome (free s a)
+    free-throughout : (s : List Actor) (a : ℕ) → AllOf ThroughoutActor s → Every ThroughoutOutcome (free s a)
     unfolding free
     free-throughout s a h = every-found 8 (getElem? s a) λ A e. turn-throughout s a A (all-at ThroughoutActor s a A h e)
 

@@ -6,9 +6,9 @@ use mathlib.Core.List.{List}
 use Rattle.atlite.specs.Base.{done}
 use Rattle.atlite.specs.State.{State}
 use Rattle.atlite.specs.Limits.{Bounds}
-use Rattle.atlite.specs.Move.{Moved, moveWithin}
+use Rattle.atlite.specs.Move.{AfterMove, moveWithin}
 use Rattle.atlite.specs.Run.{run}
-use Rattle.layout.specs.Meaning.{lent, moveCall, runCall}
+use Rattle.promises.specs.Meaning.{lent, moveCall, runCall}
 use Rattle.changes.specs.MoveBy.{moveBy, runBy, moveCallBy, runCallBy, run-kept, run-same, move-call-same, run-call-same}
 use Rattle.changes.specs.Choosing.{TwoRules, ruleBy, move-before}
 use Rattle.changes.specs.Throughout.{AnyMethods}
@@ -20,7 +20,7 @@ abbrev pub WithoutState : State → Type 0
 WithoutState σ = ThroughoutState Neither AnyMethods σ
 
 -- A move of a state without the two leaves a state without them,
-pub move-without : (B : Bounds) (σ : State) (a : ℕ) (M : Moved) → WithoutState σ → moveWithin B σ a ≡ done M → WithoutState (M .state)
+pub move-without : (B : Bounds) (σ : State) (a : ℕ) (M : AfterMove) → WithoutState σ → moveWithin B σ a ≡ done M → WithoutState (M .state)
 move-without = move-throughout Neither AnyMethods neither-formed
 
 -- and it is the move by any rules of the two, refusals too.

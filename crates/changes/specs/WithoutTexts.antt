@@ -8,7 +8,7 @@ use mathlib.Core.Option.{Option, none, some}
 use lib.ListN.{length, drop}
 use lib.Dec.{eqb}
 use Rattle.atlite.specs.Base.{Result, isDone, done, refused, _>>=_, _>>_, orRefuse, require, bytes, sameBytes, if_then_else_}
-use Rattle.atlite.specs.Facts.{Every, holds, nothing, every-done}
+use Rattle.atlite_laws.specs.Facts.{Every, holds, nothing, every-done}
 use Rattle.atlite.specs.Term.{plus, percent, get, set, call, send, Kind, isolate, actor}
 use Rattle.atlite.specs.Lexicon.{Bytes, open′, close, space, newline, isWord, isNumber, dictionary, numberOf}
 use Rattle.atlite.specs.Keywords.{nullWord, thisWord, Operator, bare, naming, letIn, future, fn, when, literal, spelling, operators}
@@ -16,7 +16,7 @@ use Rattle.atlite.specs.Script.{kept, ask, resolve, seq, srcShape, Src, Srcs, j
 use Rattle.atlite.specs.Reader.{Reading, item, eat, after, atom, readAtom, readWord, spaced, spacedWord, readItems, readOperands, least, more, readHead, readFields, readMethods, spelled, readForm, readExpr, readDefinition, readLine, readLines, readScript}
 use Rattle.atlite.specs.Table.{Table, read}
 use Rattle.atlite.specs.Replay as P
-use Rattle.atlite.specs.Valid.{All}
+use Rattle.atlite.specs.Valid.{AllOf}
 use Rattle.changes.specs.Choosing.{isNew}
 use Rattle.changes.specs.WithoutLoads.{isNewWritten, WithoutSrc, WithoutSrcs, WithoutFields, WithoutBodies, WithoutLine, WithoutTable}
 
@@ -45,7 +45,7 @@ IsFormer fn = Unit {0}
 IsFormer when = Unit {0}
 IsFormer (literal k) = Unit {0}
 
-formers : All IsFormer former
+formers : AllOf IsFormer former
 unfolding former isNewWritten isNew
 formers = (refl, (refl, ((λ x. refl), ((λ x. refl), ((λ x. refl), ((λ x. refl), ((λ x. refl), (tt, (tt, (tt, (refl, (tt, (refl, (tt, (tt, (tt, tt))))))))))))))))
 
@@ -132,7 +132,7 @@ unfolding orRefuse if_then_else_
 pick true x r u h k = holds (refl, h)
 pick false x r u h k = k
 
-operator-reads : (os ns : List Operator) (w : Bytes) → All IsFormer os → Same IsFormer (orRefuse 2 (spelled os w)) (orRefuse 2 (spelled (os ++ ns) w))
+operator-reads : (os ns : List Operator) (w : Bytes) → AllOf IsFormer os → Same IsFormer (orRefuse 2 (spelled os w)) (orRefuse 2 (spelled (os ++ ns) w))
 unfolding spelled orRefuse
 operator-reads [] ns w h = nothing
 operator-reads (o ∷ os) ns w h = pick (sameBytes (spelling o) w) o (spelled os w) (spelled (os ++ ns) w) (h .0) (operator-reads os ns w (h .1))
@@ -142,7 +142,7 @@ unfolding atom
 atom-reads ws w = either (isNumber w) (holds (refl, tt)) (either (sameBytes w nullWord) (holds (refl, tt)) (either (sameBytes w thisWord) (holds (refl, tt))
     (sure (require 2 (isWord w)) (step (orRefuse 2 (numberOf ws w)) λ x. holds (refl, tt)))))
 
-module _ (os ns : List Operator) (h : All IsFormer os) where
+module _ (os ns : List Operator) (h : AllOf IsFormer os) where
   expr-reads : (n : ℕ) (ws : List Bytes) → Reads WithoutSrc (readExpr os n ws) (readExpr (os ++ ns) n ws)
   unfolding readExpr readAtom
   expr-reads zero ws i = nothing
@@ -160,7 +160,7 @@ module _ (os ns : List Operator) (h : All IsFormer os) where
   unfolding readLine
   line-reads n ws i = option (after (bytes "(def ") i) (bind (expr-reads n ws i) λ (e, i₁) p. step (eat newline i₁) λ i₂. holds (refl, p)) λ i₁. definition-reads n ws i₁
 
-  lines-read : (n : ℕ) (ws : List Bytes) (i : Bytes) → Same (All WithoutLine) (readLines os n ws i) (readLines (os ++ ns) n ws i)
+  lines-read : (n : ℕ) (ws : List Bytes) (i : Bytes) → Same (AllOf WithoutLine) (readLines os n ws i) (readLines (os ++ ns) n ws i)
   unfolding readLines
   lines-read zero ws i = nothing
   lines-read (suc n) ws [] = holds (refl, tt)

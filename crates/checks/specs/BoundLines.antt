@@ -9,11 +9,11 @@ use borrow.Author.Needs.{needs}
 use lib.ListN.{length, getD, set, replicate}
 use lib.Seq.{set-set, set-getD}
 use Rattle.atlite.specs.Base.{done}
-use Rattle.atlite.specs.Facts.{refused-done}
+use Rattle.atlite_laws.specs.Facts.{refused-done}
 use Rattle.atlite.specs.Scope.{bound}
 use Rattle.atlite.specs.Script.{seq, Src, op, letIn, nil, cons, Line, expression, define, join}
 use Rattle.atlite.specs.Table.{Grammatical, GrammaticalLines}
-use Rattle.layout.specs.Results.{done-same, bind-done}
+use Rattle.layout_laws.specs.Results.{done-same, bind-done}
 use Rattle.words.specs.Wide.{wideKinds, wide, wideSrc, wideLines, wideLimit}
 use Rattle.checks.specs.Names.{Name, named}
 use Rattle.checks.specs.LinesAt.{Stands}

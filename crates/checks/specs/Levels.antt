@@ -10,7 +10,7 @@ use lib.Dec.{eqb, ltb}
 use lib.ListN.{length, getD, set, replicate, length-set, length-replicate}
 use lib.Seq.{getD-set-same, getD-set-other}
 use Rattle.atlite.specs.Base.{if_then_else_, member, any}
-use Rattle.layout.specs.PackLaws.{Each}
+use Rattle.layout_laws.specs.PackLaws.{Each}
 use Rattle.words.specs.Wide.{pair, wideParams, wideLimit, wideThird}
 use Rattle.checks.specs.Names.{Name}
 use Rattle.checks.specs.Bound.{bindAll}

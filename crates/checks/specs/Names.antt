@@ -9,8 +9,8 @@ use lib.Dec.{eqb, leb, ltb}
 use Rattle.atlite.specs.Base.{all}
 use Rattle.atlite.specs.Term.{this, apply, firstWord}
 use Rattle.atlite.specs.Valid.{isName}
-use Rattle.atlite.specs.Facts.{and₂}
-use Rattle.layout.specs.PackLaws.{Each}
+use Rattle.atlite_laws.specs.Facts.{and₂}
+use Rattle.layout_laws.specs.PackLaws.{Each}
 
 pub record Name (w x : ℕ) : Type 0 where
   pub above : 7 ≤ x

@@ -9,16 +9,16 @@ use borrow.Author.Tests.{ne-eqb}
 use lib.Dec.{eqb}
 use lib.ListN.{length}
 use Rattle.atlite.specs.Term.{Kind, plain, Op, written}
-use Rattle.atlite.specs.Facts.{and₂}
+use Rattle.atlite_laws.specs.Facts.{and₂}
 use Rattle.atlite.specs.Valid.{isName, shapely}
 use Rattle.reading.specs.Items.{call-few, send-few}
 use Rattle.atlite.specs.Table.{Grammatical, GrammaticalAll, GrammaticalFields, GrammaticalMethods, GrammaticalLines, writable}
 use Rattle.atlite.specs.Script.{SrcOp, ask, resolve, seq, Src, num, null, var, op, letIn, future, fn, when, literal, Srcs, nil, cons, SrcFields, noField, field, SrcMethods, noMethod, method, Line, expression, define, countSrcs}
 use Rattle.layout.specs.Numbers.{payload, fieldKind, methodUnit, nameLimit, noName, taggedLimit}
 use Rattle.layout.specs.Pack.{node, flat, places}
-use Rattle.layout.specs.PackLaws.{Each}
-use Rattle.layout.specs.Kinds.{Operating, SrcRow, isBare, isField, isCall, isSend, src-row, op-kind}
-use Rattle.layout.specs.KindLaws.{Unasked, bare-unasked, field-unasked}
+use Rattle.layout_laws.specs.PackLaws.{Each}
+use Rattle.layout_laws.specs.KindRows.{Operating, SrcRow, isBare, isField, isCall, isSend, src-row, op-kind}
+use Rattle.layout_laws.specs.KindLaws.{Unasked, bare-unasked, field-unasked}
 use Rattle.layout.specs.Terms.{opKind, kindNumber, tagged, asked, methodHeader}
 use Rattle.layout.specs.Tables.{srcKind, srcPayload, encodeSrc, encodeSrcs, encodeFields, encodeSrcMethods, encodeLine}
 use Rattle.words.specs.Wide.{wideKinds, wide, pair, wideParams, wideMethod, widePayload, wideSrc, wideSrcs, wideFields, wideMethods, wideLine, wideLines, wideLimit, wideParamsAt, wideThird}

@@ -7,7 +7,7 @@ use mathlib.Core.Logic.{_≢_}
 use native.Mathlib.Omega.{arith}
 use borrow.Author.Tests.{eqb-true, ne-eqb}
 use lib.Dec.{eqb}
-use Rattle.atlite.specs.Facts.{and₂}
+use Rattle.atlite_laws.specs.Facts.{and₂}
 use Rattle.atlite.specs.Term.{Op, written}
 use Rattle.atlite.specs.Script.{SrcOp, kept, ask, resolve, seq}
 use Rattle.atlite.specs.Table.{writable}
@@ -16,8 +16,9 @@ use Rattle.reading.specs.Items.{call-few, send-few}
 use Rattle.layout.specs.Numbers.{fieldKind}
 use Rattle.layout.specs.Terms.{opKind}
 use Rattle.layout.specs.Tables.{srcKind}
-use Rattle.layout.specs.Kinds.{Operating, SrcRow, isBare, isField, isCall, isSend, src-row, op-kind, rowIn}
-use Rattle.layout.specs.KindLaws.{Unasked, bare-row, bare-unasked, field-row, field-unasked}
+use Rattle.layout_laws.specs.KindRows.{Operating, SrcRow, isBare, isField, isCall, isSend, src-row, op-kind}
+use Rattle.decoding.specs.Kinds.{rowIn}
+use Rattle.layout_laws.specs.KindLaws.{Unasked, bare-row, bare-unasked, field-row, field-unasked}
 use Rattle.words.specs.Wide.{pair, widePayload, wideLimit}
 use Rattle.checks.specs.Names.{named}
 use Rattle.checks.specs.Trees.{outerBy}

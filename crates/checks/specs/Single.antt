@@ -10,7 +10,7 @@ use borrow.Author.Tests.{eq-eqb, ne-eqb, lt-ltb, le-ltb}
 use lib.Dec.{eqb, ltb}
 use lib.ListN.{length, getD}
 use Rattle.layout.specs.Numbers.{fieldKind}
-use Rattle.layout.specs.LastThree.{fresh, fresh-first, fresh-second, fresh-third, fresh-yes, room, noted as keep}
+use Rattle.layout_laws.specs.LastThree.{fresh, fresh-first, fresh-second, fresh-third, fresh-yes, room, noted as keep}
 use Rattle.words.specs.Wide.{wideKinds, wideLimit, wideThird, wideSigned, wideParamsAt}
 use Rattle.checks.specs.Trees.{Forest, empty, tree, words, count, outer, inner, Fits}
 use Rattle.checks.specs.TreeContract.{Here, length-tree, here-word, here-outer, here-inner, here-next, answer, chain, no-tree}

@@ -7,11 +7,11 @@ use native.Mathlib.Omega.{arith}
 use borrow.Author.Needs.{needs}
 use lib.ListN.{length, getD}
 use Rattle.atlite.specs.Base.{done}
-use Rattle.atlite.specs.Facts.{refused-done}
+use Rattle.atlite_laws.specs.Facts.{refused-done}
 use Rattle.atlite.specs.Scope.{single}
 use Rattle.atlite.specs.Script.{seq, Src, op, letIn, nil, cons, Line, expression, define, join}
 use Rattle.atlite.specs.Table.{Grammatical, GrammaticalLines}
-use Rattle.layout.specs.Results.{done-same, bind-done}
+use Rattle.layout_laws.specs.Results.{done-same, bind-done}
 use Rattle.words.specs.Wide.{wideSrc, wideLines}
 use Rattle.checks.specs.LinesAt.{Stands}
 use Rattle.checks.specs.Trees.{empty, words, count, put, words-put, count-put}

@@ -9,8 +9,8 @@ use lib.Dec.{eqb}
 use lib.ListN.{length}
 use Rattle.atlite.specs.Base.{if_then_else_, distinct, any, distinctBy}
 use Rattle.layout.specs.Numbers.{fieldKind}
-use Rattle.layout.specs.PackLaws.{Each}
-use Rattle.layout.specs.LastThree.{not-if, kept, kept-noted}
+use Rattle.layout_laws.specs.PackLaws.{Each}
+use Rattle.layout_laws.specs.LastThree.{not-if, kept, kept-noted}
 use Rattle.words.specs.Wide.{wideKinds, wide, pair, wideParams, wideLimit, wideThird, wideSigned}
 use Rattle.checks.specs.Names.{Name}
 use Rattle.checks.specs.TreeFits.{kind-wide, payload-wide}

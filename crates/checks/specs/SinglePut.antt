@@ -13,9 +13,9 @@ use Rattle.atlite.specs.Scope.{single, singleAll, singleFields, singleMethods, 
 use Rattle.atlite.specs.Table.{countFields, countMethods, Grammatical, GrammaticalAll, GrammaticalFields, GrammaticalMethods}
 use Rattle.atlite.specs.Script.{SrcOp, Src, num, null, var, op, letIn, future, fn, when, literal, Srcs, nil, cons, SrcFields, noField, field, SrcMethods, noMethod, method, countSrcs}
 use Rattle.layout.specs.Numbers.{fieldKind}
-use Rattle.layout.specs.PackLaws.{Each}
-use Rattle.layout.specs.Signatures.{signed, Below, signed-distinct}
-use Rattle.layout.specs.LastThree.{distinctFrom, from-none, kept, kept-fresh}
+use Rattle.layout_laws.specs.PackLaws.{Each}
+use Rattle.layout_laws.specs.Signatures.{signed, Below, signed-distinct}
+use Rattle.layout_laws.specs.LastThree.{distinctFrom, from-none, kept, kept-fresh}
 use Rattle.layout.specs.Terms.{kindNumber}
 use Rattle.layout.specs.Tables.{srcKind}
 use Rattle.words.specs.Wide.{wideKinds, wide, pair, wideParams, wideMethod, widePayload, wideLimit, wideSigned, wideParamsAt}

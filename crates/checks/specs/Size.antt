@@ -13,14 +13,14 @@ use lib.ListN.{length, getD, take}
 use lib.Seq.{slice, slice-cons, slice-empty}
 use Rattle.atlite.specs.Base.{done}
 use Rattle.atlite.specs.Script.{seq, Src, num, null, var, op, letIn, future, fn, when, literal, Srcs, nil, cons, SrcFields, noField, field, SrcMethods, noMethod, method, Line, expression, define, size, sizeAll, sizeFields, sizeMethods, join}
-use Rattle.atlite.specs.Facts.{refused-done}
+use Rattle.atlite_laws.specs.Facts.{refused-done}
 use Rattle.atlite.specs.Term.{Kind}
 use Rattle.layout.specs.Numbers.{fieldKind}
 use Rattle.layout.specs.Pack.{flat}
 use Rattle.layout.specs.Terms.{kindNumber}
 use Rattle.layout.specs.Tables.{srcKind}
 use Rattle.checks.specs.Operators.{op-passed}
-use Rattle.layout.specs.Results.{done-same, bind-done}
+use Rattle.layout_laws.specs.Results.{done-same, bind-done}
 use Rattle.checks.specs.LinesAt.{Stands, within}
 use Rattle.words.specs.Wide.{wideKinds, wide, wideMethod, wideSrc, wideSrcs, wideFields, wideMethods, wideLine, wideLines}
 

@@ -11,10 +11,10 @@ use Rattle.atlite.specs.Script.{Line}
 use Rattle.atlite.specs.Table.{GrammaticalLines}
 use Rattle.layout.specs.Numbers.{linesAt, linesSize, tableWords, wordSize}
 use Rattle.layout.specs.Pack.{zeros, pad, flat}
-use Rattle.layout.specs.PackLaws.{length-zeros, length-flat}
+use Rattle.layout_laws.specs.PackLaws.{length-zeros, length-flat}
 use Rattle.layout.specs.Layout.{encodeWord}
-use Rattle.layout.specs.StateReads.{words-three}
-use Rattle.layout.specs.Writes.{sets-append}
+use Rattle.layout_laws.specs.StateReads.{words-three}
+use Rattle.layout_laws.specs.Writes.{sets-append}
 use Rattle.layout.specs.Tables.{encodeLine, encodeTable}
 use Rattle.words.specs.Wide.{wideLines}
 use Rattle.checks.specs.LinesAt.{Stands, within}

@@ -12,7 +12,7 @@ use lib.Seq.{sets, slice, slice-cons, slice-empty, drop-cons}
 use Rattle.atlite.specs.Lexicon.{Bytes}
 use Rattle.layout.specs.Numbers.{payload, methodUnit, nameLimit, noName, taggedLimit, linesAt}
 use Rattle.layout.specs.Pack.{zeros, flat}
-use Rattle.layout.specs.PackLaws.{pack-low, pack-high}
+use Rattle.layout_laws.specs.PackLaws.{pack-low, pack-high}
 use Rattle.layout.specs.Layout.{bytesNumber, threeWords, encodeWord}
 use Rattle.words.specs.Wide.{wideKinds, wideLimit, wideParamsAt, wideThird}
 use Rattle.checks.specs.Narrow.{tableWord, placed, methodWord, pairWord, narrowBy, narrow, narrowAll}

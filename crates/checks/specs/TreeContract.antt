@@ -10,7 +10,7 @@ use borrow.Author.Tests.{ne-eqb}
 use lib.ListN.{length, getD, length-append}
 use lib.Seq.{getD-at}
 use Rattle.layout.specs.Numbers.{fieldKind}
-use Rattle.layout.specs.Kinds.{rowIn}
+use Rattle.decoding.specs.Kinds.{rowIn}
 use Rattle.words.specs.Wide.{wideKinds}
 use Rattle.checks.specs.Trees.{Forest, empty, tree, words, count, outerBy, innerBy, outer, inner}
 

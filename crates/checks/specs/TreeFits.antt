@@ -7,7 +7,7 @@ use Rattle.atlite.specs.Term.{Kind}
 use Rattle.atlite.specs.Table.{countFields, countMethods, Grammatical, GrammaticalAll, GrammaticalFields, GrammaticalMethods}
 use Rattle.atlite.specs.Script.{SrcOp, Src, num, null, var, op, letIn, future, fn, when, literal, Srcs, nil, cons, SrcFields, noField, field, SrcMethods, noMethod, method, countSrcs}
 use Rattle.layout.specs.Numbers.{fieldKind, digitLimit}
-use Rattle.layout.specs.Kinds.{Kinds}
+use Rattle.decoding.specs.Kinds.{Kinds}
 use Rattle.layout.specs.Terms.{kindNumber}
 use Rattle.layout.specs.Tables.{srcKind}
 use Rattle.words.specs.Wide.{wideKinds, wide, widePayload, wideMethod}

@@ -8,7 +8,7 @@ use lib.Dec.{eqb}
 use Rattle.atlite.specs.Table.{countFields, countMethods}
 use Rattle.atlite.specs.Script.{Src, num, null, var, op, letIn, future, fn, when, literal, Srcs, nil, cons, SrcFields, noField, field, SrcMethods, noMethod, method, countSrcs}
 use Rattle.layout.specs.Numbers.{fieldKind, digitLimit}
-use Rattle.layout.specs.Kinds.{rowIn}
+use Rattle.decoding.specs.Kinds.{rowIn}
 use Rattle.layout.specs.Terms.{kindNumber}
 use Rattle.layout.specs.Tables.{srcKind}
 use Rattle.words.specs.Wide.{wideKinds, wide, pair, widePayload, wideMethod, wideSrc, wideSrcs, wideFields, wideMethods, wideLimit}

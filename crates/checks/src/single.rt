@@ -3,7 +3,7 @@
 ghost use mathlib.Core.Path.{_≡_};
 ghost use Prim.Native.Nat.{_≤_};
 ghost use Rattle.words.specs.Wide.{wideSigned};
-ghost use Rattle.layout.specs.LastThree.{fresh as freshIn};
+ghost use Rattle.layout_laws.specs.LastThree.{fresh as freshIn};
 ghost use Rattle.checks.specs.Single.{apart as areApart, own as ownOf, noted as notedBy, Walked};
 ghost use Rattle.checks.specs.SingleLines.{LinesSingle, Single};
 use crate::tree;

@@ -3,7 +3,6 @@ ghost use mathlib.Core.Path.{_≡_};
 ghost use Prim.Native.Nat.{_≤_};
 ghost use Rattle.checks.specs.Lines.{Start};
 ghost use Rattle.checks.specs.Trees.{outer as outerOf, inner as innerOf};
-use layout::kinds;
 use words::wide;
 
 // Those in the word's own scope: of a literal the fields, of a message the receiver and the arguments.

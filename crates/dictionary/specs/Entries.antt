@@ -8,10 +8,10 @@ use Rattle.atlite.specs.Base.{bytes, sameBytes}
 use Rattle.atlite.specs.Lexicon.{Bytes, isWord, among}
 use Rattle.atlite.specs.Valid.{wordsHold}
 use Rattle.layout.specs.Pack.{zeros}
-use Rattle.layout.specs.PackLaws.{Each}
+use Rattle.layout_laws.specs.PackLaws.{Each}
 use Rattle.layout.specs.Layout.{bytesNumber}
-use Rattle.layout.specs.Reading.{cut}
-use Rattle.layout.specs.Decode.{bytesIn, decodeWord}
+use Rattle.decoding.specs.Reading.{cut}
+use Rattle.decoding.specs.Decode.{bytesIn, decodeWord}
 
 -- the bytes of one word, the lowest first
 unfoldable pub fourBytes : ℕ → Bytes

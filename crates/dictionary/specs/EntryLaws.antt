@@ -14,8 +14,8 @@ use Rattle.atlite.specs.Lexicon.{Bytes, among}
 use Rattle.atlite.specs.Valid.{wordsHold}
 use Rattle.layout.specs.Pack.{flat}
 use Rattle.layout.specs.Layout.{encodeWord}
-use Rattle.layout.specs.Reading.{cut}
-use Rattle.layout.specs.Decode.{decodeWord}
+use Rattle.decoding.specs.Reading.{cut}
+use Rattle.decoding.specs.Decode.{decodeWord}
 use Rattle.dictionary.specs.Entries.{zeroFrom, ownWord, entry, entryAt, entriesAt, amongAt, entryHolds, entriesHold}
 use Rattle.dictionary.specs.WordLaws.{spell-all, zero-more, zero-stop, zero-end, entry-bytes, entry-own, low-differs, middle-differs, high-decides, own-not, own-apply, own-word, entry-encoded}
 

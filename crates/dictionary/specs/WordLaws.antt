@@ -14,16 +14,16 @@ use lib.ListN.{length, getD, drop, set, replicate, take-append-drop, length-drop
 use lib.Seq.{sets, slice, drop-cons, length-slice}
 use Rattle.atlite.specs.Base.{bytes, sameBytes, all, if_then_else_}
 use Rattle.atlite.specs.Lexicon.{Bytes, isLetter, isDigit, inWord, isWord}
-use Rattle.atlite.specs.Facts.{same-true, same-refl, same-false-sym}
+use Rattle.atlite_laws.specs.Facts.{same-true, same-refl, same-false-sym}
 use Rattle.atlite.specs.Reader.{item}
 use Rattle.reading.specs.Items.{word-parts, Ends, item-run}
 use Rattle.layout.specs.Pack.{zeros}
-use Rattle.layout.specs.PackLaws.{each-append, pack-low, pack-high, length-zeros}
-use Rattle.layout.specs.StateReads.{ByteFits, bytes-back}
-use Rattle.layout.specs.Fitting.{each-all}
-use Rattle.layout.specs.StateFits.{byte-fits}
+use Rattle.layout_laws.specs.PackLaws.{each-append, pack-low, pack-high, length-zeros}
+use Rattle.layout_laws.specs.StateReads.{ByteFits, bytes-back}
+use Rattle.layout_laws.specs.Fitting.{each-all}
+use Rattle.layout_laws.specs.StateFits.{byte-fits}
 use Rattle.layout.specs.Layout.{bytesNumber, threeWords, encodeWord}
-use Rattle.layout.specs.Decode.{bytesIn, decodeWord}
+use Rattle.decoding.specs.Decode.{bytesIn, decodeWord}
 use Rattle.scan.specs.Runs.{Run}
 use Rattle.scan.specs.Keywords.{same-not, run-all}
 use Rattle.dictionary.specs.Entries.{fourBytes, AreBytes, zeroFrom, spelled, ownWord, entry}

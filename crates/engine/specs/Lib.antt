@@ -2,5 +2,3 @@
 pub mod LoadContract
 pub mod MoveContract
 pub mod RunContract
--- demand 3 of these calls
-pub mod CallHistories

@@ -1,4 +1,4 @@
-// The calls of the engine, on words and bytes that the caller lends. Each has one meaning for whatever stands there (layout's `Meaning`),
+// The calls of the engine, on words and bytes that the caller lends. Each has one meaning for whatever stands there (`Meaning` of crate `promises`),
 // and no condition for a caller to meet.
 mod moves;
 mod tables;

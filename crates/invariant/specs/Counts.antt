@@ -6,22 +6,22 @@ use native.Mathlib.Omega.{arith}
 use lib.ListN.{length}
 use Rattle.atlite.specs.Base.{Result, done, refused}
 use Rattle.atlite.specs.State.{State}
-use Rattle.atlite.specs.Move.{Moved, move}
-use Rattle.atlite.specs.Run.{Ran, begun, after, runFrom, run}
+use Rattle.atlite.specs.Move.{AfterMove, move}
+use Rattle.atlite.specs.Run.{AfterRun, begun, afterEntry, runFrom, run}
 
-abbrev total : Ran → ℕ
+abbrev total : AfterRun → ℕ
 total R = R .counts .moves + R .counts .refusals
 
-after-total : (R : Ran) (r : Result Moved) → total (after R r) ≡ total R + 1
-unfolding after
+after-total : (R : AfterRun) (r : Result AfterMove) → total (afterEntry R r) ≡ total R + 1
+unfolding afterEntry
 after-total R (done M) = omega arith
 after-total R (refused n) = omega arith
 
-total-from : (R : Ran) (es : List ℕ) → total (runFrom R es) ≡ total R + length es
+total-from : (R : AfterRun) (es : List ℕ) → total (runFrom R es) ≡ total R + length es
 unfolding runFrom
 total-from R [] = omega arith
 total-from R (a ∷ es) =
-    let h = total-from (after R (move (R .state) a)) es in
+    let h = total-from (afterEntry R (move (R .state) a)) es in
     let k = after-total R (move (R .state) a) in
     omega arith
 

@@ -7,7 +7,7 @@ use Prim.Native.Nat.{ℕ, _+_, _<_}
 use native.Mathlib.Omega.{arith}
 use Rattle.atlite.specs.Base.{member, all, if_then_else_, any, distinctBy}
 use Rattle.atlite.specs.Term.{this, ·t, ·r, ·l, ·x, apply, Value, plain, resolve, send, Term, var, op, two, countTerms, initNames, signatures, seen}
-use Rattle.atlite.specs.Expansion.{functionWith, resolvingWith}
+use Rattle.atlite_laws.specs.Closures.{functionWith, resolvingWith}
 use Rattle.atlite.specs.Valid.{isName, isVariable, fewDistinct, fieldsNamed, methodsNamed, parameters, sendable, WellFormed}
 use borrow.Author.Tests.{lt-ltb}
 use Rattle.invariant.specs.Terms.{put, sub-skip}

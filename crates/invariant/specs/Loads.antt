@@ -19,7 +19,7 @@ use Rattle.atlite.specs.Script.{seq, Src, nil, cons, Line, expression, define, 
 use Rattle.atlite.specs.Scope.{bound, single}
 use Rattle.atlite.specs.Lexicon.{Bytes}
 use Rattle.atlite.specs.Load.{start, load}
-use Rattle.atlite.specs.Facts.{refused-done, none-some}
+use Rattle.atlite_laws.specs.Facts.{refused-done, none-some}
 use Rattle.reading.specs.Exact.{table-count, table-words}
 use Rattle.invariant.specs.Terms.{put-first}
 use Rattle.invariant.specs.Entries.{each-one}

@@ -6,9 +6,9 @@ use Prim.Native.Nat.{ℕ}
 use lib.Dec.{eqb}
 use Rattle.atlite.specs.Base.{all}
 use Rattle.atlite.specs.Term.{this, Value, Kind, object, isolate, actor, Term, val, var, op, letIn, future, literal, Terms, nil, cons, Inits, noField, field, Methods, noMethod, method, countTerms, initNames, signatures, seen}
-use Rattle.atlite.specs.Valid.{isVariable, operable, fieldsNamed, methodsNamed, parameters, All, Held, WellFormed, WellFormedAll, WellFormedInits, WellFormedMethods}
-use Rattle.atlite.specs.ValidTest.{held, wellFormed, wellFormedAll, wellFormedInits, wellFormedMethods}
-use Rattle.atlite.specs.Facts.{and₂, and₃, and₄, both₂, both₃, both₄}
+use Rattle.atlite.specs.Valid.{isVariable, operable, fieldsNamed, methodsNamed, parameters, AllOf, Held, WellFormed, WellFormedAll, WellFormedInits, WellFormedMethods}
+use Rattle.decoding.specs.ValidTest.{held, wellFormed, wellFormedAll, wellFormedInits, wellFormedMethods}
+use Rattle.atlite_laws.specs.Facts.{and₂, and₃, and₄, both₂, both₃, both₄}
 use Rattle.invariant.specs.Terms.{widerInits, widerMethods}
 
 -- p as a proposition
@@ -84,12 +84,12 @@ mutual
   methods-from noMethod w p xs h = refl
   methods-from (method m ys e ms) w p xs h = both₃ (h .0) (wf-from e w p (ys ++ xs) (h .1)) (methods-from ms w p xs (h .2))
 
-pub all-is : {X : Type 0} (p : X → Bool) (Q : X → Type 0) → ((x : X) → p x ≡ true → Q x) → (l : List X) → all p l ≡ true → All Q l
+pub all-is : {X : Type 0} (p : X → Bool) (Q : X → Type 0) → ((x : X) → p x ≡ true → Q x) → (l : List X) → all p l ≡ true → AllOf Q l
 unfolding all
 all-is p Q f [] h = tt
 all-is p Q f (x ∷ l) h = let r = and₂ (p x) (all p l) h in (f x (r .0), all-is p Q f l (r .1))
 
-pub is-all : {X : Type 0} (p : X → Bool) (Q : X → Type 0) → ((x : X) → Q x → p x ≡ true) → (l : List X) → All Q l → all p l ≡ true
+pub is-all : {X : Type 0} (p : X → Bool) (Q : X → Type 0) → ((x : X) → Q x → p x ≡ true) → (l : List X) → AllOf Q l → all p l ≡ true
 unfolding all
 is-all p Q f [] h = refl
 is-all p Q f (x ∷ l) h = both₂ (f x (h .0)) (is-all p Q f l (h .1))

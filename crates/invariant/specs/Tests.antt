@@ -11,11 +11,11 @@ use lib.ListN.{length, getElem?}
 use lib.Dec.{eqb, leb, ltb}
 use Rattle.atlite.specs.Base.{all}
 use Rattle.atlite.specs.Term.{this, made, copied, Value, null, num, ref, object, future, field, signatures}
-use Rattle.atlite.specs.State.{Message, message, Field, Tag, O, I, Entity, resolver, Actor, State, entityAt, isFuture, sameValue, isIsolate, fieldNames}
+use Rattle.atlite.specs.State.{Message, message, Field, Tag, shared, isolated, Entity, resolver, Actor, State, entityAt, isFuture, sameValue, isIsolate, fieldNames}
 use Rattle.atlite.specs.Valid.{sendable, fieldsNamed, methodsNamed, wordsHold, Each, HeldBy, FieldsHeld, Waits, OwnValue, Arrived, IsEntity, IsActor, MayHold, IsState}
-use Rattle.atlite.specs.ValidTest.{wellFormed, wellFormedMethods, visible, holdable, fieldsHold, ownReference, arrived, waits, heldBy, noMessage, entityHolds, entitiesHold, actorHolds, actorsHold, isState}
-use Rattle.atlite.specs.Facts.{eqb-same, none-some, and₂, and₃, and₄, both₂, both₃, both₄, and₅}
-use Rattle.atlite.specs.Laws.{same-value, value-same}
+use Rattle.decoding.specs.ValidTest.{wellFormed, wellFormedMethods, visible, holdable, fieldsHold, ownReference, arrived, waits, heldBy, noMessage, entityHolds, entitiesHold, actorHolds, actorsHold, isState}
+use Rattle.atlite_laws.specs.Facts.{eqb-same, none-some, and₂, and₃, and₄, both₂, both₃, both₄, and₅}
+use Rattle.atlite_laws.specs.Laws.{same-value, value-same}
 use Rattle.atlite.specs.Limits.{full, withinLimits}
 use Rattle.atlite.specs.State as St
 use Rattle.invariant.specs.Monotonicity.{actor-up}
@@ -72,13 +72,13 @@ module _ (σ : State) (a : ℕ) where
 
   by-to : (t : Tag) (v : Value) → heldBy t p v ≡ true → HeldBy t (Is p) v
   unfolding heldBy
-  by-to O v h = h
-  by-to I v h = h
+  by-to shared v h = h
+  by-to isolated v h = h
 
   by-from : (t : Tag) (v : Value) → HeldBy t (Is p) v → heldBy t p v ≡ true
   unfolding heldBy
-  by-from O v h = h
-  by-from I v h = h
+  by-from shared v h = h
+  by-from isolated v h = h
 
   waits-to : (n : ℕ) (m : Message) → waits σ a n m ≡ true → Waits w (Is p) (ref a made n) m
   unfolding waits

@@ -10,11 +10,11 @@ use borrow.Author.Tests.{leb-true}
 use lib.Dec.{eqb, leb, ltb}
 use lib.ListN.{length, drop, getD, length-append, length-drop}
 use Rattle.atlite.specs.Base.{bytes, all}
-use Rattle.atlite.specs.Facts.{and₂}
+use Rattle.atlite_laws.specs.Facts.{and₂}
 use Rattle.atlite.specs.Lexicon.{Bytes}
 use Rattle.atlite.specs.Printer.{digits, printNumber}
 use Rattle.layout.specs.Numbers.{payload, header, nameLimit, noName, taggedLimit, secondPlace, thirdPlace, numberLimit, ownerUnit, ownerLimit, digitLimit, digitsLimit, slotUnit, exprAt, messageSize, inboxAt, waitingAt, slotSize, madeAt, copiedAt, bodiesAt, partSize, headSize, stateWords}
-use Rattle.layout.specs.Kinds.{Words, keywords, wordAt, wordIn as wordOf}
+use Rattle.decoding.specs.Kinds.{Words, keywords, wordAt, wordIn as wordOf}
 use Rattle.showing.specs.Writer.{most}
 use Rattle.showing.specs.TextOfWords.{letterIn, lettersIn, knownIn, wordIn, taggedIn, nameIn, first, second, openIn, placesIn, paramsIn, after, count, operatorIn, headIn, seriesIn, ownerIn, refIn, leafIn, Text, operandsIn, formIn, shown}
 use Rattle.lister.specs.TextOfState.{deep, messageIn, waits, waitingIn, inboxIn, fieldsIn, kindIn, stateIn, entryIn, openingIn, Entry, partsIn, slotIn, slotsIn, spacedIn, titleIn, countsIn, exprIn, lineIn, entitiesIn, actorIn, actorsIn, listedIn}

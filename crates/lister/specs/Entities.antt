@@ -11,18 +11,18 @@ use lib.Seq.{drop-at}
 use Rattle.atlite.specs.Base.{bytes}
 use Rattle.atlite.specs.Lexicon.{Bytes}
 use Rattle.atlite.specs.Printer.{printNumber}
-use Rattle.atlite.specs.Listing.{printSeries, printValue, printMethods, printField, printMessage, printTag, printState, line, printEntity, printEntities}
+use Rattle.atlite.specs.Listing.{printSeries, printValue, printMethods, printField, printMessage, printTag, printContent, line, printEntity, printEntities}
 use Rattle.atlite.specs.Term.{Series, made, copied, Value, Methods}
-use Rattle.atlite.specs.State.{Message, Field, Tag, O, I, Entity, object, future, resolver, fieldNames, fieldValues}
+use Rattle.atlite.specs.State.{Message, Field, Tag, shared, isolated, Entity, object, future, resolver, fieldNames, fieldValues}
 use Rattle.reading.specs.Items.{behind, behind-append, form-closing}
 use Rattle.layout.specs.Numbers.{payload, noName, numberLimit, digitLimit, digitsLimit, slotUnit, bodiesSize}
 use Rattle.layout.specs.Pack.{zeros, pad, flat, names}
-use Rattle.layout.specs.PackLaws.{pad-front, Each, each-map}
+use Rattle.layout_laws.specs.PackLaws.{pad-front, Each, each-map}
 use Rattle.layout.specs.Terms.{seriesBit, countMethods, encodeMethods}
-use Rattle.layout.specs.TermLaws.{ValueFits}
-use Rattle.layout.specs.Layout.{valueWords, encodeMessage, slotHead, tagNumber, slot, slots, methodsOf, bodies, queue, queues}
-use Rattle.layout.specs.Slots.{MessageFits, EntityFits, EntitiesFit, At, queue-at, queues-from, queues-fit, slot-length, tag-low}
-use Rattle.layout.specs.Places.{flat-append}
+use Rattle.layout_laws.specs.TermLaws.{ValueFits}
+use Rattle.layout.specs.Layout.{valueWords, encodeMessage, slotHead, tagNumber, slot, slots, entityMethods, bodies, queue, queues}
+use Rattle.layout_laws.specs.Slots.{MessageFits, EntityFits, EntitiesFit, At, queue-at, queues-from, queues-fit, slot-length, tag-low}
+use Rattle.layout_laws.specs.Places.{flat-append}
 use Rattle.showing.specs.TextOfWords.{seriesIn, operandsIn, shown}
 use Rattle.lister.specs.TextOfState.{deep, waits, waitingIn, fieldsIn, kindIn, stateIn, entryIn, openingIn, Entry, partsIn, slotIn, slotsIn}
 use Rattle.showing.specs.Spelling.{Spells}
@@ -104,13 +104,13 @@ module _ (t : List ℕ) (ws : List Bytes) (sp : Spells t ws) (a : ℕ) (s : Seri
 
   tag-kind : (g : Tag) → kindIn (tagNumber g) ≡ 40 ∷ (printTag g ++ (32 ∷ []))
   unfolding kindIn tagNumber printTag bytes
-  tag-kind O = refl
-  tag-kind I = refl
+  tag-kind shared = refl
+  tag-kind isolated = refl
 
   tag-state : (g : Tag) (v : ℕ) → stateIn t (tagNumber g) v ≡ []
   unfolding stateIn tagNumber
-  tag-state O v = refl
-  tag-state I v = refl
+  tag-state shared v = refl
+  tag-state isolated v = refl
 
   -- ---- the four entities
   module _ (n : ℕ) (w b q : List ℕ) (e : waits n q ≡ false) where
@@ -133,7 +133,7 @@ module _ (t : List ℕ) (ws : List Bytes) (sp : Spells t ws) (a : ℕ) (s : Seri
     open-shown : (p : List Message) → Each MessageFits p → At n p → length p ≤ 16
         → slotIn t a (seriesBit s) (slot n (future none p) ++ w) b (flat encodeMessage p ++ q)
         ≡ entry (printEntity ws (future none p) (printNumber a) (printSeries s) (printNumber n)) b q
-    unfolding slot printEntity printState kindIn stateIn fieldsIn operandsIn bytes
+    unfolding slot printEntity printContent kindIn stateIn fieldsIn operandsIn bytes
     open-shown p h k l =
         slot-text 3 0 0 n (omega arith) (omega arith) (omega arith) (bytes "future") (bytes "open" ∷ []) [] [] (map (printMessage ws) p) 0 _ b b (flat encodeMessage p ++ q) q
         refl refl refl refl (waiting-shown t ws sp n 16 p q l h k e)
@@ -141,7 +141,7 @@ module _ (t : List ℕ) (ws : List Bytes) (sp : Spells t ws) (a : ℕ) (s : Seri
     value-shown : (v : Value) → ValueFits v
         → slotIn t a (seriesBit s) (slot n (future (some v) []) ++ w) b q
         ≡ entry (printEntity ws (future (some v) []) (printNumber a) (printSeries s) (printNumber n)) b q
-    unfolding slot printEntity printState kindIn stateIn fieldsIn operandsIn flat bytes
+    unfolding slot printEntity printContent kindIn stateIn fieldsIn operandsIn flat bytes
     value-shown v h =
         slot-text 4 0 0 n (omega arith) (omega arith) (omega arith) (bytes "future") (printValue v ∷ []) [] [] [] 0 _ b b q q
         refl (ap {B = Bytes} (λ u. 32 ∷ u) (leaf-shown t ws sp v h ∙ sym (append-nil (printValue v)))) refl refl (waiting-shown t ws sp n 16 [] q (omega arith) tt tt e)
@@ -155,10 +155,10 @@ module _ (t : List ℕ) (ws : List Bytes) (sp : Spells t ws) (a : ℕ) (s : Seri
         slot-text 5 0 0 n (omega arith) (omega arith) (omega arith) (bytes "resolver") (printNumber k ∷ []) [] [] [] 0 _ b b q q
         refl (ap {B = Bytes} (λ u. 32 ∷ u) (ap printNumber z ∙ sym (append-nil (printNumber k)))) refl refl (waiting-shown t ws sp n 16 [] q (omega arith) tt tt e)
 
-    entity-shown : (o : Entity) → EntityFits n o → length (encodeMethods (methodsOf o)) ≤ bodiesSize → length (queue o) ≤ 16
-        → slotIn t a (seriesBit s) (slot n o ++ w) (encodeMethods (methodsOf o) ++ b) (flat encodeMessage (queue o) ++ q)
+    entity-shown : (o : Entity) → EntityFits n o → length (encodeMethods (entityMethods o)) ≤ bodiesSize → length (queue o) ≤ 16
+        → slotIn t a (seriesBit s) (slot n o ++ w) (encodeMethods (entityMethods o) ++ b) (flat encodeMessage (queue o) ++ q)
         ≡ entry (printEntity ws o (printNumber a) (printSeries s) (printNumber n)) b q
-    unfolding methodsOf queue flat encodeMethods
+    unfolding entityMethods queue flat encodeMethods
     entity-shown (object g F M) h l k = object-shown g F M h l
     entity-shown (future none p) h l k = open-shown p (each-map _ MessageFits (λ m i. i .0) p h) (queue-at n (future none p) h) k
     entity-shown (future (some v) p) h l k =
@@ -172,10 +172,10 @@ module _ (t : List ℕ) (ws : List Bytes) (sp : Spells t ws) (a : ℕ) (s : Seri
   unfolding slotsIn slots bodies queues flat printEntities
   entities-shown n [] w b q f l k i = refl
   entities-shown n (o ∷ h) w b q f l k i =
-      let x = length-append (encodeMethods (methodsOf o)) (bodies h) in
+      let x = length-append (encodeMethods (entityMethods o)) (bodies h) in
       let y = length-append (queue o) (queues h) in
       let e1 = append-assoc (slot n o) (slots (suc n) h) w in
-      let e2 = append-assoc (encodeMethods (methodsOf o)) (bodies h) b in
+      let e2 = append-assoc (encodeMethods (entityMethods o)) (bodies h) b in
       let e3 = ap {B = List ℕ} (λ u. u ++ q) (flat-append encodeMessage (queue o) (queues h)) ∙ append-assoc (flat encodeMessage (queue o)) (flat encodeMessage (queues h)) q in
       let z = later-waits n (queues h) q (queues-fit (suc n) h (f .1)) (queues-from (suc n) h (f .1)) i in
       rw (e1, e2, e3, entity-shown n (slots (suc n) h ++ w) (bodies h ++ b) (flat encodeMessage (queues h) ++ q) z o (f .0) (omega arith) (omega arith), drop-at (slot n o) (slots (suc n) h ++ w) 8 (slot-length n o (f .0)), entities-shown (suc n) h w b q (f .1) (omega arith) (omega arith) i)

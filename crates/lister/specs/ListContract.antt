@@ -12,7 +12,7 @@ use Rattle.atlite.specs.Valid.{IsState}
 use Rattle.atlite.specs.Listing.{listing}
 use Rattle.layout.specs.Numbers.{stateWords}
 use Rattle.layout.specs.Layout.{encode}
-use Rattle.layout.specs.StateFits.{state-fits}
+use Rattle.layout_laws.specs.StateFits.{state-fits}
 use Rattle.showing.specs.Writer.{most, Wrote}
 use Rattle.lister.specs.TextOfState.{listedIn}
 use Rattle.lister.specs.States.{listing-shown}

@@ -18,12 +18,12 @@ use Rattle.atlite.specs.State.{Message, message, Field, field, fieldNames, fiel
 use Rattle.reading.specs.Items.{behind}
 use Rattle.layout.specs.Numbers.{payload, header, nameLimit, numberLimit}
 use Rattle.layout.specs.Pack.{zeros, pad, flat, names}
-use Rattle.layout.specs.PackLaws.{pack-low, pack-high, Each, NameFits}
+use Rattle.layout_laws.specs.PackLaws.{pack-low, pack-high, Each, NameFits}
 use Rattle.layout.specs.Terms.{seriesBit, encodeValue, tagged, fieldHeader}
-use Rattle.layout.specs.TermLaws.{ValueFits}
+use Rattle.layout_laws.specs.TermLaws.{ValueFits}
 use Rattle.layout.specs.Layout.{valueWords, encodeMessage}
-use Rattle.layout.specs.Decode.{aimOf, aim}
-use Rattle.layout.specs.Slots.{MessageFits, message-length, From, At}
+use Rattle.decoding.specs.Decode.{aimOf, aim}
+use Rattle.layout_laws.specs.Slots.{MessageFits, message-length, From, At}
 use Rattle.showing.specs.TextOfWords.{formIn, shown}
 use Rattle.lister.specs.TextOfState.{messageIn, aimIn, waits, waitingIn, inboxIn, fieldsIn}
 use Rattle.showing.specs.Spelling.{Spells}

@@ -16,12 +16,12 @@ use Rattle.atlite.specs.State.{Entity, object, future, resolver, Actor, State}
 use Rattle.reading.specs.Items.{form-closing}
 use Rattle.layout.specs.Numbers.{payload, exprAt, exprSize, queueSize, inboxAt, waitingAt, madeSize, copiedSize, madeAt, copiedAt, bodiesSize, bodiesAt, restSize, partSize, headSize, partsSize, tailSize}
 use Rattle.layout.specs.Pack.{zeros, pad, flat}
-use Rattle.layout.specs.PackLaws.{pad-front, drop-pad, length-flat, Each}
+use Rattle.layout_laws.specs.PackLaws.{pad-front, drop-pad, length-flat, Each}
 use Rattle.layout.specs.Terms.{seriesBit, countMethods, encodeTerm}
 use Rattle.layout.specs.Layout.{encodeWord, encodeMessage, slotHead, slot, slots, bodies, queues, encodeActor, encode}
-use Rattle.layout.specs.Slots.{EntitiesFit, tag-low}
-use Rattle.layout.specs.Parts.{ActorFits, fromCounts, fromExpr, fromInbox, fromWaiting, fromMade, fromCopied, fromBodies, counts, regions, actor-length}
-use Rattle.layout.specs.StateReads.{StateFits, topWords, head-words, words-three}
+use Rattle.layout_laws.specs.Slots.{EntitiesFit, tag-low}
+use Rattle.layout_laws.specs.Parts.{ActorFits, fromCounts, fromExpr, fromInbox, fromWaiting, fromMade, fromCopied, fromBodies, counts, regions, actor-length}
+use Rattle.layout_laws.specs.StateReads.{StateFits, topWords, head-words, words-three}
 use Rattle.showing.specs.TextOfWords.{Text, shown}
 use Rattle.lister.specs.TextOfState.{deep, Entry, slotsIn, spacedIn, titleIn, countsIn, exprIn, lineIn, entitiesIn, actorIn, actorsIn, listedIn}
 use Rattle.showing.specs.Spelling.{Spells, entry-at}

@@ -11,7 +11,7 @@ use Rattle.atlite.specs.Listing.{printTerm, printTerms, printInits, printMethod
 use Rattle.atlite.specs.Term.{Term, val, var, op, letIn, future, literal, Terms, nil, cons, Inits, noField, Methods, noMethod, method, countTerms}
 use Rattle.reading.specs.Items.{placed-none}
 use Rattle.layout.specs.Terms.{countInits, countMethods, fieldHeader, methodHeader, encodeTerm, encodeTerms, encodeInits, encodeMethods}
-use Rattle.layout.specs.TermLaws.{Fits, FitsAll, FitsInits, FitsMethods}
+use Rattle.layout_laws.specs.TermLaws.{Fits, FitsAll, FitsInits, FitsMethods}
 use Rattle.showing.specs.TextOfWords.{shown}
 use Rattle.showing.specs.Spelling.{Spells}
 use Rattle.showing.specs.Says.{showing}

@@ -12,10 +12,10 @@ use Rattle.atlite.specs.Base.{if_then_else_}
 use Rattle.atlite.specs.Term.{this, ·t, ·f, ·r, ·l, ·x, apply, firstWord, Value, Name, Kind, object, isolate, actor, register, Term, Terms, nil, cons, Inits, noField, Methods, noMethod, method, seq, one, two, append, call, send, written, val, var, op, letIn, literal, future}
 use Rattle.atlite.specs.Subst.{enters, subst, substAll}
 use Rattle.atlite.specs.Script.{SrcOp, kept, ask, resolve, Src, Srcs, SrcFields, SrcMethods}
-use Rattle.atlite.specs.Expansion.{functionWith, asking, ofTwo, Expansion, expandOp, expand, expandAll, expandFields, expandMethods}
+use Rattle.atlite.specs.Expansion.{function, asking, ofTwo, Expansion, expandOp, expand, expandAll, expandFields, expandMethods}
 use Rattle.atlite.specs.Valid.{isName}
 use Rattle.atlite.specs.Table.{Named, Grammatical, GrammaticalAll, GrammaticalFields, GrammaticalMethods}
-use Rattle.atlite.specs.Facts.{and₂}
+use Rattle.atlite_laws.specs.Facts.{and₂}
 
 -- ---- what stands for `this`
 pub data Self : Type 0 where
@@ -123,8 +123,8 @@ unfolding subst append if_then_else_
 append-last z nil = refl
 append-last z (cons e es) = ap (cons (subst this z e)) (append-last z es)
 
-closure-this : (z : Term) (x : ℕ) (e d : Term) → subst this (var ·t) e ≡ d → subst this z (functionWith (var this) x e) ≡ closure z x d
-unfolding functionWith closure subst enters if_then_else_
+closure-this : (z : Term) (x : ℕ) (e d : Term) → subst this (var ·t) e ≡ d → subst this z (function x e) ≡ closure z x d
+unfolding function closure subst enters if_then_else_
 closure-this z x e d h = ap (closure z x) h
 
 op-this : (o : SrcOp) (es : Terms) (s : Self) → subst this (selfTerm s) (expandOp o es) ≡ expandOpWith o s (substAll this (selfTerm s) es)

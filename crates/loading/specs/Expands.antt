@@ -13,9 +13,9 @@ use lib.Seq.{drop-at}
 use Rattle.atlite.specs.Term.{·t, ·f, ·r, ·l, ·s}
 use Rattle.layout.specs.Numbers.{payload, nameLimit}
 use Rattle.layout.specs.Terms.{variable, binding, sendRegister}
-use Rattle.layout.specs.Kinds.{Kinds}
-use Rattle.layout.specs.Arity.{arity, ends, ends-none}
-use Rattle.layout.specs.KindLaws.{arity-leaf}
+use Rattle.decoding.specs.Kinds.{Kinds}
+use Rattle.layout_laws.specs.Arity.{arity, ends, ends-none}
+use Rattle.layout_laws.specs.KindLaws.{arity-leaf}
 use Rattle.loading.specs.ExpandedWords.{leafIn, resolverWords, waiterWords, before, after, inner, Words, emits, operandsIn, formIn, resolveIn, whenIn, emitted}
 
 pub record One (n z : ℕ) (w s : List ℕ) : Type 0 where

@@ -16,15 +16,15 @@ use Rattle.atlite.specs.Table.{countFields, countMethods, Grammatical, Grammati
 use Rattle.layout.specs.Numbers.{payload, nameLimit, taggedLimit, digitLimit}
 use Rattle.layout.specs.Pack.{node}
 use Rattle.reading.specs.Items.{send-few}
-use Rattle.layout.specs.Fitting.{name-fits, shape-fits}
-use Rattle.layout.specs.TableReads.{variable-named}
+use Rattle.layout_laws.specs.Fitting.{name-fits, shape-fits}
+use Rattle.layout_laws.specs.TableReads.{variable-named}
 use Rattle.layout.specs.Terms.{opKind, opNode, countMethods as countBodies, variable, tagged, asked, kindNumber, fieldHeader, methodHeader, encodeTerm, encodeTerms, encodeInits, encodeMethods, encodeValue, countInits, nullWord, binding, objectWord, sendRegister}
 use Rattle.layout.specs.Tables.{encodeSrc, encodeSrcs, encodeFields, encodeSrcMethods}
-use Rattle.layout.specs.TermReads.{label-small}
-use Rattle.layout.specs.Kinds.{op-kind, kind-range}
-use Rattle.layout.specs.Parse.{unary, binary, many, parts}
-use Rattle.layout.specs.ParseHeads.{head-op, head-let, head-future, head-literal}
-use Rattle.layout.specs.Arity.{head-wants}
+use Rattle.layout_laws.specs.TermReads.{label-small}
+use Rattle.layout_laws.specs.KindRows.{op-kind, kind-range}
+use Rattle.layout_laws.specs.Parse.{unary, binary, many, parts}
+use Rattle.layout_laws.specs.ParseHeads.{head-op, head-let, head-future, head-literal}
+use Rattle.layout_laws.specs.Arity.{head-wants}
 use Rattle.printer.specs.Nesting.{nesting, nestingAll, nestingFields, nestingMethods}
 use Rattle.loading.specs.Expanding.{resolvingFor, expandOpWith, Self, outside, held, itself, selfTerm, closure, expandWith, expandAllWith, expandFieldsWith, expandMethodsWith}
 use Rattle.loading.specs.ExpandedWords.{leafIn, closureWords, askWords, resolverWords, waiterWords}

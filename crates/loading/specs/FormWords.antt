@@ -10,8 +10,8 @@ use Rattle.atlite.specs.Term.{this, ·t, ·f, ·r, ·s}
 use Rattle.layout.specs.Numbers.{payload, fieldKind, nameLimit, tagLimit}
 use Rattle.layout.specs.Pack.{node}
 use Rattle.layout.specs.Terms.{variable, binding}
-use Rattle.layout.specs.Kinds.{Kinds}
-use Rattle.layout.specs.Arity.{arity, arity-header}
+use Rattle.decoding.specs.Kinds.{Kinds}
+use Rattle.layout_laws.specs.Arity.{arity, arity-header}
 use Rattle.loading.specs.Ranges.{past, over, under}
 use Rattle.loading.specs.ExpandedWords.{closureWords, askWords, before, after, inner}
 use Rattle.loading.specs.Expands.{Brings}

@@ -11,12 +11,12 @@ use Rattle.atlite.specs.Term.{·s}
 use Rattle.atlite.specs.Script.{seq, Src, num, null, var, op, letIn, future, fn, when, literal, nil, cons, Line, expression, define, countSrcs, join}
 use Rattle.atlite.specs.Expansion.{ofTwo}
 use Rattle.atlite.specs.Table.{countFields, countMethods, Grammatical, GrammaticalLines}
-use Rattle.atlite.specs.Facts.{refused-done}
+use Rattle.atlite_laws.specs.Facts.{refused-done}
 use Rattle.layout.specs.Numbers.{payload, nameLimit, noName, digitLimit}
 use Rattle.layout.specs.Pack.{node, flat}
-use Rattle.layout.specs.Fitting.{name-fits}
-use Rattle.layout.specs.Kinds.{kind-small}
-use Rattle.layout.specs.TableReads.{variable-named, src-kind-small, src-payload-small}
+use Rattle.layout_laws.specs.Fitting.{name-fits}
+use Rattle.layout_laws.specs.KindRows.{kind-small}
+use Rattle.layout_laws.specs.TableReads.{variable-named, src-kind-small, src-payload-small}
 use Rattle.layout.specs.Terms.{kindNumber, encodeTerm, nullWord, binding}
 use Rattle.layout.specs.Tables.{srcKind, srcPayload, encodeSrc, definitionHeader, encodeLine}
 use Rattle.printer.specs.Nesting.{nesting, nestingLine, nestingLines}

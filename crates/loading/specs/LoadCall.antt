@@ -11,12 +11,12 @@ use Rattle.atlite.specs.Table.{Table, IsTable}
 use Rattle.atlite.specs.Load.{load}
 use Rattle.invariant.specs.Loads.{load-keeps}
 use Rattle.layout.specs.Numbers.{stateWords, tableWords}
-use Rattle.layout.specs.StateFits.{state-fits}
-use Rattle.layout.specs.StateReads.{encode-length}
+use Rattle.layout_laws.specs.StateFits.{state-fits}
+use Rattle.layout_laws.specs.StateReads.{encode-length}
 use Rattle.layout.specs.Tables.{encodeTable}
-use Rattle.layout.specs.TableLaws.{table-of-iff}
-use Rattle.layout.specs.Meaning.{answered, tableIn, loadCall}
-use Rattle.layout.specs.Outcomes.{room-enough}
+use Rattle.layout_laws.specs.TableLaws.{table-of-iff}
+use Rattle.promises.specs.Meaning.{answered, tableIn, loadCall}
+use Rattle.layout_laws.specs.Outcomes.{room-enough}
 use Rattle.loading.specs.LoadContract.{Loads}
 
 pub load-call : (table old : List ℕ) (r : Bool) (new : List ℕ) (T : Table) → tableWords ≤ length table → stateWords ≤ length old

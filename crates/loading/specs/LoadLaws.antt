@@ -20,22 +20,22 @@ use Rattle.atlite.specs.Limits.{full, Limits, withinLimits}
 use Rattle.atlite.specs.Table.{Table, IsTable, textOf}
 use Rattle.atlite.specs.Load.{start, load}
 use Rattle.atlite.specs.Valid.{unreferring}
-use Rattle.atlite.specs.Facts.{refused-done}
+use Rattle.atlite_laws.specs.Facts.{refused-done}
 use Rattle.reading.specs.Exact.{table-words}
 use Rattle.invariant.specs.Loads.{joined, script-closed}
 use Rattle.invariant.specs.TermTests.{Is, wf-from}
 use Rattle.layout.specs.Numbers.{exprSize, madeSize, stateWords, linesAt, linesSize, tableWords}
 use Rattle.layout.specs.Pack.{zeros, pad, flat}
-use Rattle.layout.specs.PackLaws.{length-flat, length-pad, drop-pad}
-use Rattle.layout.specs.Writes.{zeros-split}
+use Rattle.layout_laws.specs.PackLaws.{length-flat, length-pad, drop-pad}
+use Rattle.layout_laws.specs.Writes.{zeros-split}
 use Rattle.layout.specs.Terms.{encodeTerm}
-use Rattle.layout.specs.TermLaws.{Fits, term-length}
-use Rattle.layout.specs.Fitting.{plain-fits, fits-term}
-use Rattle.layout.specs.Arity.{nodesIn, term-nodes}
+use Rattle.layout_laws.specs.TermLaws.{Fits, term-length}
+use Rattle.layout_laws.specs.Fitting.{plain-fits, fits-term}
+use Rattle.layout_laws.specs.Arity.{nodesIn, term-nodes}
 use Rattle.layout.specs.Layout.{encodeWord, encode}
-use Rattle.layout.specs.StateReads.{words-three}
+use Rattle.layout_laws.specs.StateReads.{words-three}
 use Rattle.layout.specs.Tables.{encodeLine, encodeTable}
-use Rattle.layout.specs.TableFitting.{table-fits}
+use Rattle.layout_laws.specs.TableFitting.{table-fits}
 use Rattle.loading.specs.Writer.{Wrote, cap, cap-small, cap-large}
 use Rattle.printer.specs.TextDepth.{depth-script}
 use Rattle.loading.specs.Expanding.{outside, selfTerm, expandWith, expand-this}

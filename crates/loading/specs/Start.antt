@@ -11,9 +11,9 @@ use Rattle.atlite.specs.Term.{Term}
 use Rattle.atlite.specs.State.{Actor}
 use Rattle.layout.specs.Numbers.{exprAt, exprSize, queueSize, inboxAt, waitingAt, madeSize, copiedSize, madeAt, copiedAt, bodiesSize, restSize, partSize, headSize, partsSize, tailSize, stateWords, tableWords}
 use Rattle.layout.specs.Pack.{zeros, pad, flat}
-use Rattle.layout.specs.PackLaws.{length-zeros, length-flat}
-use Rattle.layout.specs.Writes.{zeros-split, sets-append}
-use Rattle.layout.specs.StateReads.{words-three}
+use Rattle.layout_laws.specs.PackLaws.{length-zeros, length-flat}
+use Rattle.layout_laws.specs.Writes.{zeros-split, sets-append}
+use Rattle.layout_laws.specs.StateReads.{words-three}
 use Rattle.layout.specs.Terms.{encodeTerm}
 use Rattle.layout.specs.Layout.{slots, bodies, queues, encodeActor, encodeWord, encode}
 

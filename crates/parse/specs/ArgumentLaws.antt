@@ -11,7 +11,7 @@ use Rattle.atlite.specs.Lexicon.{Bytes, dictionary}
 use Rattle.atlite.specs.Script.{Src, Srcs, countSrcs}
 use Rattle.atlite.specs.Keywords.{operators}
 use Rattle.atlite.specs.Reader.{spaced, readItems, readExpr}
-use Rattle.layout.specs.Writes.{sets-append}
+use Rattle.layout_laws.specs.Writes.{sets-append}
 use Rattle.words.specs.Wide.{wide, pair, wideSrc, wideSrcs}
 use Rattle.scan.specs.Runs.{Starts}
 use Rattle.parse.specs.declared.scratch.Step.{Step}

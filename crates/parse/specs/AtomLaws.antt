@@ -12,7 +12,7 @@ use Rattle.atlite.specs.Base.{Base, Result, done, refused, require, orRefuse, _
 use Rattle.atlite.specs.Lexicon.{Bytes, isDigit, isWord, letterFirst, isNumber, decimal, numberOf, dictionary}
 use Rattle.atlite.specs.Script.{Src}
 use Rattle.atlite.specs.Reader.{item, atom, readAtom, readWord}
-use Rattle.atlite.specs.Facts.{same-true, same-false-sym}
+use Rattle.atlite_laws.specs.Facts.{same-true, same-false-sym}
 use Rattle.atlite.specs.Term.{top}
 use Rattle.words.specs.Wide.{wide, wideSrc}
 use Rattle.scan.specs.Runs.{Run}

@@ -18,7 +18,7 @@ use Rattle.atlite.specs.Script.{SrcOp, kept, ask, resolve, seq, srcShape, Src, 
 use Rattle.atlite.specs.Reader.{Reading, item, after, atom, readAtom, readItems, least, more, readOperands, readForm, readExpr}
 use Rattle.layout.specs.Terms.{kindNumber, labelNumber}
 use Rattle.layout.specs.Tables.{srcKind}
-use Rattle.layout.specs.Kinds.{Words, kindIn, rowIn}
+use Rattle.decoding.specs.Kinds.{Words, kindIn, rowIn}
 use Rattle.words.specs.Wide.{wide, pair, widePayload, wideSrc, wideSrcs}
 use Rattle.scan.specs.Runs.{Run, Starts}
 use Rattle.parse.specs.declared.names.Name.{Name}

@@ -23,7 +23,7 @@ use Rattle.parse.specs.declared.scratch.Listed.{Listed}
 use Rattle.parse.specs.declared.scratch.Listed.the-variants.{Items, NoItems}
 use Rattle.parse.specs.Atoms.{NameRead, Named, NameOf}
 use Rattle.parse.specs.DescentContract.{Place, Read, Took, Reads, Closed, ListRead, TookList, Lists, readOne, ones, oneWords, readLiteral, literals, literalWords, fieldsFrom, methodsFrom, fieldAt, readRest, TookEnd, Ended}
-use Rattle.layout.specs.Writes.{sets-append}
+use Rattle.layout_laws.specs.Writes.{sets-append}
 use Rattle.parse.specs.DescentLaws.{bind-assoc, headed}
 
 -- ---- places

@@ -12,7 +12,7 @@ use lib.Seq.{slice, length-slice}
 use Rattle.atlite.specs.Base.{Base, Result, done, refused, require, orRefuse, _>>=_, _>>_, bytes, sameBytes, if_then_else_}
 use Rattle.atlite.specs.Lexicon.{Bytes, isWord, place, numberOf, dictionary}
 use Rattle.atlite.specs.Reader.{eat, after, readWord, spaced, spacedWord}
-use Rattle.atlite.specs.Facts.{same-true, same-false-sym}
+use Rattle.atlite_laws.specs.Facts.{same-true, same-false-sym}
 use Rattle.scan.specs.Runs.{Run, Starts, index}
 use Rattle.scan.specs.Keywords.{index-le}
 use Rattle.scan.specs.WordNumbers.{lowPart, highPart, Placed}

@@ -15,7 +15,7 @@ use mir.Val.{Fits}
 use mir.Syntax.{w64}
 use Rattle.atlite.specs.Base.{all}
 use Rattle.atlite.specs.Lexicon.{Bytes, isDigit, isNumber, decimal}
-use Rattle.atlite.specs.Facts.{and₂}
+use Rattle.atlite_laws.specs.Facts.{and₂}
 use Rattle.atlite.specs.Term.{top}
 use Rattle.parse.specs.declared.numbers.Number.{Number as Numbers}
 use Rattle.parse.specs.declared.numbers.Number.the-variants.{Is, Not}

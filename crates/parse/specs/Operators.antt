@@ -10,7 +10,7 @@ use native.Mathlib.Omega.{arith}
 use borrow.Author.Tests.{eqb-true, eq-eqb, ne-eqb}
 use lib.Dec.{eqb}
 use Rattle.atlite.specs.Base.{sameBytes, all, if_then_else_}
-use Rattle.atlite.specs.Facts.{and₂}
+use Rattle.atlite_laws.specs.Facts.{and₂}
 use Rattle.atlite.specs.Term.{Op, written, demanded, Shape, exactly}
 use Rattle.atlite.specs.Lexicon.{Bytes}
 use Rattle.atlite.specs.Keywords.{Operator, naming, operators, spelling}
@@ -18,8 +18,9 @@ use Rattle.atlite.specs.Script.{SrcOp, kept, srcShape}
 use Rattle.atlite.specs.Reader.{spelled}
 use Rattle.layout.specs.Terms.{opKind}
 use Rattle.layout.specs.Tables.{srcKind}
-use Rattle.layout.specs.Kinds.{Kinds, Words, Bare, Form, forms, formKind, formAt, formIn, operatorKind, keywords, kindOf, kindIn, rowIn, by-kind}
-use Rattle.layout.specs.KindLaws.{bare-found, bare-row, field-found, field-row}
+use Rattle.decoding.specs.Kinds.{Kinds, Words, Bare, Form, forms, formKind, formAt, formIn, operatorKind, keywords, kindOf, kindIn, rowIn}
+use Rattle.layout_laws.specs.KindRows.{by-kind}
+use Rattle.layout_laws.specs.KindLaws.{bare-found, bare-row, field-found, field-row}
 use Rattle.scan.specs.Keywords.{absent, distinct, keywords-distinct, kind-absent}
 
 -- the operator of kind k

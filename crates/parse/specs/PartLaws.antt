@@ -16,7 +16,7 @@ use Rattle.parse.specs.declared.scratch.Step.{Step}
 use Rattle.parse.specs.declared.scratch.Step.the-variants.{Done, Bad}
 use Rattle.parse.specs.Atoms.{NameRead, SpacedName}
 use Rattle.parse.specs.DescentContract.{readArgs, Read, Took, Reads, Closed, TookPart, Follow, Argued, spaceds, Parts, readParts, parts, partWords, headWords, readOne, ones, oneWords, readMid, mids, midWords, readSend, sends, sendWords}
-use Rattle.layout.specs.Writes.{sets-append}
+use Rattle.layout_laws.specs.Writes.{sets-append}
 use Rattle.parse.specs.NameLaws.{spaced-read}
 use Rattle.parse.specs.DescentLaws.{headed, bind-assoc, took-under}
 

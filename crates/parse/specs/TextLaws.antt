@@ -14,7 +14,7 @@ use Rattle.atlite.specs.Lexicon.{Bytes, dictionary}
 use Rattle.atlite.specs.Script.{seq, Src, op, nil, cons, Line, expression, define, join}
 use Rattle.atlite.specs.Keywords.{operators}
 use Rattle.atlite.specs.Reader.{eat, after, spaced, readWord, readExpr, readDefinition, readLine, readLines, readScript}
-use Rattle.atlite.specs.Facts.{Every, holds, every-done, given}
+use Rattle.atlite_laws.specs.Facts.{Every, holds, every-done, given}
 use Rattle.layout.specs.Pack.{flat}
 use Rattle.words.specs.Wide.{wideLine, wideLines}
 use Rattle.scan.specs.Runs.{Starts}
@@ -23,7 +23,7 @@ use Rattle.parse.specs.declared.scratch.Step.the-variants as step
 use Rattle.parse.specs.declared.Parsed.{Parsed}
 use Rattle.parse.specs.declared.Parsed.the-variants.{Done, Bad}
 use Rattle.parse.specs.DescentContract.{Place, Read, Took, Reads}
-use Rattle.layout.specs.Writes.{sets-append}
+use Rattle.layout_laws.specs.Writes.{sets-append}
 use Rattle.parse.specs.Lines.{lineOf}
 
 -- no definition comes next

@@ -90,8 +90,8 @@ fn form(
     requires { ⌜ Ready (now text) (now low) (now high) count × Place (now text) at (o + 1) × (length (now out) ≡ 4096) ⌝ }
     ensures { λ r. ⌜ Reads wideSrc (forms k (now (text .entry))) (now (text .entry)) at o (now (out .entry)) (now (out .exit)) r ⌝ }
 {
-    let named = layout::kinds::operator(k as u32);
-    let n = layout::kinds::operands(k as u32);
+    let named = kinds::operator(k as u32);
+    let n = kinds::operands(k as u32);
     if named == 1 {
         return parts(text, at, low, high, count, out, o, o + 1, k as u64, n);
     }

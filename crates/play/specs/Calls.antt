@@ -13,17 +13,17 @@ use lib.Seq.{sets-eq, length-sets, take-at, take-suc, take-all, length-take-le}
 use lib.Dec.{ltb}
 use Rattle.atlite.specs.Base.{Result, done, refused, _>>=_, bytes}
 use Rattle.atlite.specs.Lexicon.{Bytes}
-use Rattle.atlite.specs.Move.{Answer, Moved, move}
+use Rattle.atlite.specs.Move.{Answer, AfterMove, move}
 use Rattle.atlite.specs.Printer.{digits, printNumber, printItems}
-use Rattle.atlite.specs.Replay.{answerText, Replayed, after, callFrom, called}
+use Rattle.atlite.specs.Replay.{answerText, Replayed, afterCall, callFrom, called}
 use Rattle.atlite.specs.Answers.{moveAnswer}
 use Rattle.atlite.specs.declared.ActorNo.{ActorNo}
 use Rattle.atlite.specs.declared.Moved.{Moved as Answers}
 use Rattle.atlite.specs.declared.Moved.the-variants as M
 use Rattle.invariant.specs.Moves.{move-keeps}
 use Rattle.layout.specs.Layout.{encode}
-use Rattle.layout.specs.Meaning.{answered, lent, moveCall}
-use Rattle.layout.specs.MeaningLaws.{lent-state, state-lent, move-length}
+use Rattle.promises.specs.Meaning.{answered, lent, moveCall}
+use Rattle.layout_laws.specs.MeaningLaws.{lent-state, state-lent, move-length}
 use Rattle.showing.specs.Writer.{Wrote, wrote-none, wrote-two}
 use Rattle.play.specs.Limits.{longest, answerRoom, answersRoom}
 use Rattle.play.specs.Starts.{Holds}
@@ -127,18 +127,18 @@ pub ruleset answering = (needs, gap-none, gap-wrote, named-put, cause-put, inner
 
 -- ---- one call more
 -- the last of some calls
-call-last : (R : Replayed) (es : List ℕ) (a : ℕ) → callFrom R (es ++ (a ∷ [])) ≡ after (callFrom R es) (move (callFrom R es .state) a)
+call-last : (R : Replayed) (es : List ℕ) (a : ℕ) → callFrom R (es ++ (a ∷ [])) ≡ afterCall (callFrom R es) (move (callFrom R es .state) a)
 unfolding callFrom
 call-last R [] a = refl
-call-last R (e ∷ es) a = call-last (after R (move (R .state) e)) es a
+call-last R (e ∷ es) a = call-last (afterCall R (move (R .state) e)) es a
 
 -- an answer for each call
 answers-length : (R : Replayed) (es : List ℕ) → length (callFrom R es .answers) ≡ length (R .answers) + length es
-unfolding callFrom after
+unfolding callFrom afterCall
 answers-length R [] = omega arith
-answers-length R (e ∷ es) = answers-length (after R (move (R .state) e)) es ∙ omega (arith, one (move (R .state) e))
+answers-length R (e ∷ es) = answers-length (afterCall R (move (R .state) e)) es ∙ omega (arith, one (move (R .state) e))
   where
-    one : (m : Result Moved) → length (after R m .answers) ≡ length (R .answers) + 1
+    one : (m : Result AfterMove) → length (afterCall R m .answers) ≡ length (R .answers) + 1
     one (done M) = length-append (R .answers) (answerText (M .answer) ∷ [])
     one (refused n) = length-append (R .answers) (printNumber n ∷ [])
 
@@ -150,13 +150,13 @@ items-last (u ∷ v ∷ vs) x = ap (λ y. u ++ (32 ∷ y)) (items-last (v ∷ vs
 
 module _ (w : List ℕ) (R : Replayed) (h : lent w ≡ done (R .state)) (a : ℕ) where
   -- the call's words and text are the definition's
-  after-call : (after R (move (R .state) a) .answers ≡ R .answers ++ (told (moveCall w a .result) ∷ [])) × (lent (moveCall w a .buffer) ≡ done (after R (move (R .state) a) .state))
-  unfolding after moveCall answered told
+  after-call : (afterCall R (move (R .state) a) .answers ≡ R .answers ++ (told (moveCall w a .result) ∷ [])) × (lent (moveCall w a .buffer) ≡ done (afterCall R (move (R .state) a) .state))
+  unfolding afterCall moveCall answered told
   after-call = rw h (go (move (R .state) a) refl)
     where
-      go : (m : Result Moved) → move (R .state) a ≡ m
-          → (after R m .answers ≡ R .answers ++ (told (answered w (m >>= λ M. done (M .answer, encode (M .state))) .result) ∷ []))
-          × (lent (answered w (m >>= λ M. done (M .answer, encode (M .state))) .buffer) ≡ done (after R m .state))
+      go : (m : Result AfterMove) → move (R .state) a ≡ m
+          → (afterCall R m .answers ≡ R .answers ++ (told (answered w (m >>= λ M. done (M .answer, encode (M .state))) .result) ∷ []))
+          × (lent (answered w (m >>= λ M. done (M .answer, encode (M .state))) .buffer) ≡ done (afterCall R m .state))
       go (done M) e = (refl, lent-state (M .state) (drop (length (encode (M .state))) w) (move-keeps (R .state) a M (state-lent w (R .state) h .0) e))
       go (refused n) e = (refl, h)
 
@@ -201,13 +201,13 @@ module _ (w₀ es : List ℕ) (i : ℕ) (w : List ℕ) (k : ℕ) (text : List �
     answer = told (moveCall w (getD es i 0) .result)
 
     -- the calls so far with this one
-    call-next : called (g .held .state) (take (i + 1) es) ≡ after so-far (move (so-far .state) (getD es i 0))
+    call-next : called (g .held .state) (take (i + 1) es) ≡ afterCall so-far (move (so-far .state) (getD es i 0))
     unfolding called
     call-next =
         let t : take (i + 1) es ≡ take i es ++ (getD es i 0 ∷ []) = rw (add-one, take-suc es i 0) in
         ap (called (g .held .state)) t ∙ call-last _ (take i es) (getD es i 0)
 
-    made : (after so-far (move (so-far .state) (getD es i 0)) .answers ≡ so-far .answers ++ (answer ∷ [])) × (lent (moveCall w (getD es i 0) .buffer) ≡ done (after so-far (move (so-far .state) (getD es i 0)) .state))
+    made : (afterCall so-far (move (so-far .state) (getD es i 0)) .answers ≡ so-far .answers ++ (answer ∷ [])) × (lent (moveCall w (getD es i 0) .buffer) ≡ done (afterCall so-far (move (so-far .state) (getD es i 0)) .state))
     made = after-call w so-far (g .words) (getD es i 0)
 
     answer-next : printItems (called (g .held .state) (take (i + 1) es) .answers) ≡ printItems (so-far .answers) ++ (gap i ++ answer)

@@ -11,7 +11,7 @@ use lib.ListN.{length, take, drop, length-append, length-drop, take-append-drop}
 use lib.Seq.{sets-eq, drop-append-le, drop-drop, drop-at, length-take-le}
 use lib.Dec.{leb}
 use Rattle.atlite.specs.Base.{Result, done, refused, _>>=_, _>>_, require}
-use Rattle.atlite.specs.Facts.{refused-done}
+use Rattle.atlite_laws.specs.Facts.{refused-done}
 use Rattle.atlite.specs.Lexicon.{Bytes}
 use Rattle.atlite.specs.State.{State}
 use Rattle.atlite.specs.Listing.{listing}
@@ -19,8 +19,8 @@ use Rattle.atlite.specs.Program.{listed, shown}
 use Rattle.atlite.specs.Answers.{listAnswer}
 use Rattle.atlite.specs.declared.Listed.{Listed}
 use Rattle.atlite.specs.declared.Listed.the-variants as S
-use Rattle.layout.specs.Meaning.{answered, room, lent, listCall}
-use Rattle.layout.specs.Results.{done-same, refused-same, bind-done, then-done, require-done}
+use Rattle.promises.specs.Meaning.{answered, room, lent, listCall}
+use Rattle.layout_laws.specs.Results.{done-same, refused-same, bind-done, then-done, require-done}
 use Rattle.showing.specs.Writer.{Wrote}
 use Rattle.play.specs.Limits.{listingRoom, answersRoom}
 use Rattle.play.specs.Starts.{ofWords}

@@ -17,8 +17,8 @@ use Rattle.atlite.specs.Loops.{entry, schedule, played, loops}
 use Rattle.invariant.specs.Moves.{run-keeps}
 use Rattle.layout.specs.Numbers.{stateWords}
 use Rattle.layout.specs.Layout.{encode}
-use Rattle.layout.specs.Meaning.{lent, runCall}
-use Rattle.layout.specs.MeaningLaws.{lent-state, state-lent, run-unlent, run-leaves}
+use Rattle.promises.specs.Meaning.{lent, runCall}
+use Rattle.layout_laws.specs.MeaningLaws.{lent-state, state-lent, run-unlent, run-leaves}
 use Rattle.play.specs.declared.line.Line.{Line}
 use Rattle.play.specs.declared.line.Line.the-variants.{Unended}
 use Rattle.play.specs.declared.line.Entries.{Entries}

@@ -7,7 +7,7 @@ use native.Mathlib.Omega.{arith}
 use borrow.Author.Needs.{needs}
 use lib.ListN.{length, take, drop}
 use Rattle.atlite.specs.Base.{Result, done, refused, _>>=_, orRefuse}
-use Rattle.atlite.specs.Facts.{refused-done}
+use Rattle.atlite_laws.specs.Facts.{refused-done}
 use Rattle.atlite.specs.Lexicon.{Bytes}
 use Rattle.atlite.specs.State.{State}
 use Rattle.atlite.specs.Keywords.{operators}
@@ -24,11 +24,11 @@ use Rattle.invariant.specs.Loads.{load-keeps}
 use Rattle.layout.specs.Numbers.{stateWords, tableWords}
 use Rattle.layout.specs.Layout.{encode}
 use Rattle.layout.specs.Tables.{encodeTable}
-use Rattle.layout.specs.TableLaws.{table-of}
-use Rattle.layout.specs.Meaning.{answered, tableIn, lent, readCall, loadCall}
-use Rattle.layout.specs.MeaningLaws.{lent-state, read-done, read-length}
-use Rattle.layout.specs.Outcomes.{room-enough}
-use Rattle.layout.specs.Results.{refused-same}
+use Rattle.layout_laws.specs.TableLaws.{table-of}
+use Rattle.promises.specs.Meaning.{answered, tableIn, lent, readCall, loadCall}
+use Rattle.layout_laws.specs.MeaningLaws.{lent-state, read-done, read-length}
+use Rattle.layout_laws.specs.Outcomes.{room-enough}
+use Rattle.layout_laws.specs.Results.{refused-same}
 use Rattle.play.specs.Output.{Written, result-same}
 
 -- ---- what is left to do

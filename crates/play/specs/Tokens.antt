@@ -15,7 +15,7 @@ use lib.Dec.{eqb}
 use Rattle.atlite.specs.Base.{if_then_else_}
 use Rattle.atlite.specs.Lexicon.{Bytes, isDigit}
 use Rattle.atlite.specs.Loops.{entry}
-use Rattle.atlite.specs.Replay.{before, between, tokens, digits, token, calls}
+use Rattle.atlite.specs.Replay.{before, between, tokens, digitCalls, token, calls}
 use Rattle.play.specs.declared.line.Entries.the-variants.{Read, Bad}
 use Rattle.play.specs.Limits.{longest}
 use Rattle.play.specs.Lines.{first-byte}
@@ -24,7 +24,7 @@ use Rattle.play.specs.Entries.{EntriesOf, Reading, read-starts, read-end
 -- the calls of tokens the first of which has begun already
 unfoldable pub opened : List Bytes → Option (List ℕ)
 opened [] = some []
-opened (t ∷ ts) = digits t (calls ts)
+opened (t ∷ ts) = digitCalls t (calls ts)
 
 -- the calls that are left at the place i of the line l: it begins there, or stands behind a digit
 unfoldable pub left : ℕ → Bytes → Option (List ℕ)
@@ -52,12 +52,12 @@ module _ (b : ℕ) where
   opened-before (t ∷ ts) = refl
 
   digit-before : isDigit b ≡ true → (ts : List Bytes) → calls (before b ts) ≡ entry b (opened ts)
-  unfolding opened before calls token digits if_then_else_
+  unfolding opened before calls token digitCalls if_then_else_
   digit-before e [] = rw e
   digit-before e (t ∷ ts) = rw e
 
   other-before : isDigit b ≡ false → (ts : List Bytes) → calls (before b ts) ≡ none
-  unfolding before calls token digits if_then_else_
+  unfolding before calls token digitCalls if_then_else_
   other-before e [] = rw e
   other-before e (t ∷ ts) = rw e
 
@@ -82,7 +82,7 @@ module _ (b : ℕ) where
   more-digit h k l = ap calls (at-other b l (omega arith)) ∙ digit-before (is-digit h k) (between l)
 
 left-end : (l : Bytes) → left (length l) l ≡ some []
-unfolding left opened between calls tokens digits
+unfolding left opened between calls tokens digitCalls
 left-end [] = refl
 left-end (b ∷ l) = rw (drop-length l)
 
@@ -116,7 +116,7 @@ module _ (l : Bytes) (i : ℕ) (h : i < length l) where
 
   module _ (n : i ≡ 0 → ⊥) where
     pub skip-space : getD l i 0 ≡ 32 → Skips l i (i + 1)
-    unfolding opened digits
+    unfolding opened digitCalls
     skip-space e = record { is = later n ∙ ap (λ x. opened (between x)) (first-byte l i h) ∙ ap opened (at-space (getD l i 0) (drop (i + 1) l) e); low = omega arith; high = omega arith }
 
     pub skip-other : (getD l i 0 ≡ 32 → ⊥) → Skips l i i

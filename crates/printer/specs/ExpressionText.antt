@@ -15,12 +15,12 @@ use Rattle.atlite.specs.Printer.{placed, print, printAll, printFields, printMet
 use Rattle.atlite.specs.Listing.{printValue}
 use Rattle.atlite.specs.Script.{Src, num, null, var, op, letIn, future, fn, when, literal, Srcs, nil, cons, SrcFields, noField, field, SrcMethods, noMethod, method, Line, expression, define, countSrcs}
 use Rattle.atlite.specs.Table.{Named, countFields, countMethods, Grammatical, GrammaticalAll, GrammaticalFields, GrammaticalMethods, GrammaticalLines}
-use Rattle.atlite.specs.Facts.{and₂}
+use Rattle.atlite_laws.specs.Facts.{and₂}
 use Rattle.reading.specs.Items.{placed-none}
 use Rattle.layout.specs.Pack.{flat}
-use Rattle.layout.specs.PackLaws.{NameFits, Each}
-use Rattle.layout.specs.Fitting.{name-fits}
-use Rattle.layout.specs.TableReads.{variable-named}
+use Rattle.layout_laws.specs.PackLaws.{NameFits, Each}
+use Rattle.layout_laws.specs.Fitting.{name-fits}
+use Rattle.layout_laws.specs.TableReads.{variable-named}
 use Rattle.layout.specs.Terms.{encodeValue, fieldHeader, methodHeader}
 use Rattle.layout.specs.Tables.{encodeSrc, encodeSrcs, encodeFields, encodeSrcMethods, encodeLine}
 use Rattle.printer.specs.Nesting.{nesting, nestingAll, nestingFields, nestingMethods, nestingLine, nestingLines}

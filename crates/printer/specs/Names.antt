@@ -12,8 +12,8 @@ use Rattle.atlite.specs.Table.{Table, IsTable}
 use Rattle.reading.specs.Exact.{table-words, table-count}
 use Rattle.layout.specs.Pack.{pad}
 use Rattle.layout.specs.Tables.{encodeTable}
-use Rattle.layout.specs.TableReading.{decodeTable}
-use Rattle.layout.specs.TableLaws.{decode-encode-table}
+use Rattle.decoding.specs.TableReading.{decodeTable}
+use Rattle.layout_laws.specs.TableLaws.{decode-encode-table}
 use Rattle.dictionary.specs.Entries.{entriesAt, entriesHold}
 
 -- Behind the three counts stands a dictionary that a script can have: at most 64 words, none reserved and none twice.

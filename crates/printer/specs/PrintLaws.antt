@@ -11,7 +11,7 @@ use lib.Seq.{sets-eq}
 use Rattle.atlite.specs.Table.{Table, IsTable, textOf}
 use Rattle.layout.specs.Numbers.{tableWords}
 use Rattle.layout.specs.Tables.{encodeTable}
-use Rattle.layout.specs.TableFitting.{table-fits}
+use Rattle.layout_laws.specs.TableFitting.{table-fits}
 use Rattle.printer.specs.declared.Written.the-variants.{Bytes, Bad}
 use Rattle.showing.specs.Writer.{Wrote}
 use Rattle.printer.specs.Names.{namesHold, table-names}

@@ -10,11 +10,11 @@ use Rattle.atlite.specs.Table.{Table, IsTable, textOf}
 use Rattle.reading.specs.Exact.{table-words}
 use Rattle.layout.specs.Numbers.{linesAt, linesSize}
 use Rattle.layout.specs.Pack.{pad, zeros, flat}
-use Rattle.layout.specs.PackLaws.{pad-front, drop-pad, length-flat}
+use Rattle.layout_laws.specs.PackLaws.{pad-front, drop-pad, length-flat}
 use Rattle.layout.specs.Layout.{encodeWord}
 use Rattle.layout.specs.Tables.{encodeLine, encodeTable}
-use Rattle.layout.specs.StateReads.{words-three}
-use Rattle.layout.specs.TableFitting.{table-fits}
+use Rattle.layout_laws.specs.StateReads.{words-three}
+use Rattle.layout_laws.specs.TableFitting.{table-fits}
 use Rattle.showing.specs.Spelling.{Spells, entry-at}
 use Rattle.printer.specs.TextOfLines.{linesIn}
 use Rattle.printer.specs.TextDepth.{depth-script}

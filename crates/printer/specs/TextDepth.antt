@@ -17,7 +17,7 @@ use Rattle.atlite.specs.Printer.{Printer, srcNames, placed, digits, printNumber
 use Rattle.atlite.specs.Keywords.{srcWord, printKind, bare, naming}
 use Rattle.atlite.specs.Table.{writable, Named, Grammatical, GrammaticalAll, GrammaticalFields, GrammaticalMethods, GrammaticalLines}
 use Rattle.atlite.specs.Reader.{depthFrom, depth}
-use Rattle.atlite.specs.Facts.{and₂}
+use Rattle.atlite_laws.specs.Facts.{and₂}
 use Rattle.reading.specs.Items.{word-parts, operator-writes, OpRead, nameless, named, op-read}
 use Rattle.reading.specs.Words.{name-word}
 use Rattle.printer.specs.Nesting.{nesting, nestingAll, nestingFields, nestingMethods, nestingLine, nestingLines}

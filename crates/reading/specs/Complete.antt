@@ -15,7 +15,7 @@ use Rattle.atlite.specs.Keywords.{Keywords, printKind, srcWord, Operator, bare,
 use Rattle.atlite.specs.Reader.{item, eat, after, spaced, spacedWord, readOperands, readFields, readMethods, least, more, spelled, readForm, readExpr, readDefinition, readLine, readLines}
 use Rattle.atlite.specs.Valid.{wordsHold}
 use Rattle.atlite.specs.Table.{writable, countFields, countMethods, Grammatical, GrammaticalAll, GrammaticalFields, GrammaticalMethods, GrammaticalLines}
-use Rattle.atlite.specs.Facts.{refused-done}
+use Rattle.atlite_laws.specs.Facts.{refused-done}
 use Rattle.reading.specs.Items.{after-whole, behind, closing, behind-append, form-closing, Within, within-form, within-append, ends-closing, item-run, placed-none, operator-writes, Spelt, OpRead, nameless, named, op-read, literal-read, Words}
 use Rattle.reading.specs.Sound.{GrammaticalLine, lines-grammatical}
 use Rattle.reading.specs.ReadBack.{Takes, word-takes, num-takes, null-takes, var-takes, items-end, items-more, head-takes}

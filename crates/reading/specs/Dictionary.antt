@@ -10,7 +10,7 @@ use borrow.Author.Tests.{not-true}
 use Rattle.atlite.specs.Base.{bytes, sameBytes, if_then_else_, all}
 use Rattle.atlite.specs.Lexicon.{Bytes, among, isWord, inWord, noted, wordsFrom, wordsOf, withoutApply, dictionary}
 use Rattle.atlite.specs.Valid.{wordsHold}
-use Rattle.atlite.specs.Facts.{and₂, or-false, same-true, same-false-sym}
+use Rattle.atlite_laws.specs.Facts.{and₂, or-false, same-true, same-false-sym}
 
 -- different words
 Separate : List Bytes → Type 0

@@ -18,7 +18,7 @@ use Rattle.atlite.specs.Keywords.{operators}
 use Rattle.atlite.specs.Reader.{depth, readLines, readScript}
 use Rattle.atlite.specs.Valid.{wordsHold}
 use Rattle.atlite.specs.Table.{Table, read, textOf, GrammaticalLines, IsTable}
-use Rattle.atlite.specs.Facts.{and₂, Every, holds, every-done, every-bind, given, checked}
+use Rattle.atlite_laws.specs.Facts.{and₂, Every, holds, every-done, every-bind, given, checked}
 use Rattle.reading.specs.Dictionary.{dictionary-holds, dictionary-length}
 use Rattle.reading.specs.Sound.{lines-sound}
 use Rattle.reading.specs.Complete.{lines-take}

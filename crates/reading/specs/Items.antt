@@ -14,13 +14,13 @@ use borrow.Author.Tests.{eqb-true, leb-true, eq-eqb, le-leb}
 use Rattle.atlite.specs.Base.{Base, if_then_else_, sameBytes, all}
 use Rattle.atlite.specs.Lexicon.{Bytes, inWord, isLetter, isDigit, letterFirst, isWord, among}
 use Rattle.atlite.specs.Term.{Term·all, plain, plus, percent, same, choose, get, set, call, send, Kind, object, isolate, actor}
-use Rattle.atlite.specs.Valid.{All, isName, callable, sendable, operable}
+use Rattle.atlite.specs.Valid.{AllOf, isName, callable, sendable, operable}
 use Rattle.atlite.specs.Script.{SrcOp, kept, ask, resolve, seq, srcShape}
 use Rattle.atlite.specs.Printer.{Printer, printItems, form, printWord, srcNames, placed}
 use Rattle.atlite.specs.Keywords.{printKind, srcWord, reserved, Operator, bare, naming, letIn, future, fn, when, literal, operators, letWord, futureWord, fnWord, whenWord, spelling}
 use Rattle.atlite.specs.Reader.{item, eat, after, least, more, spelled}
 use Rattle.atlite.specs.Table.{writable}
-use Rattle.atlite.specs.Facts.{none-some, and₂, both₂, same-true, Every, holds, nothing, checked}
+use Rattle.atlite_laws.specs.Facts.{none-some, and₂, both₂, same-true, Every, holds, nothing, checked}
 
 -- items, each behind a space, then j
 abbrev pub behind : List Bytes → Bytes → Bytes
@@ -183,7 +183,7 @@ row : {A B : Type 0} → A → B → A × B
 row h r = (h, r)
 
 -- the table of the reader, row by row
-rows : All (λ o. Writes (spelling o) o) operators
+rows : AllOf (λ o. Writes (spelling o) o) operators
 unfolding Words
 rows =
     row (refl, λ ws. refl, λ w n. exactly-asks true 2 n)
@@ -205,7 +205,7 @@ rows =
     (row (refl, λ ws. refl, λ w n. exactly-asks true 3 n)
     (row (refl, λ ws. refl, λ w n. exactly-asks true 2 n) tt)))))))))))))))))
 
-found-writes : (os : List Operator) (w : Bytes) (o : Operator) → All (λ o. Writes (spelling o) o) os → spelled os w ≡ some o → Writes w o
+found-writes : (os : List Operator) (w : Bytes) (o : Operator) → AllOf (λ o. Writes (spelling o) o) os → spelled os w ≡ some o → Writes w o
 unfolding spelled if_then_else_
 found-writes [] w o a h = absurd (none-some h)
 found-writes (r ∷ os) w o a h = go (sameBytes (spelling r) w) refl h (found-writes os w o (a .1))

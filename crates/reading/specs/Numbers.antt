@@ -12,7 +12,7 @@ use Rattle.atlite.specs.Base.{all}
 use Rattle.atlite.specs.Lexicon.{Bytes, isDigit, decimal, isNumber}
 use Rattle.atlite.specs.Term.{top}
 use Rattle.atlite.specs.Printer.{digits, printNumber}
-use Rattle.atlite.specs.Facts.{and₂, both₂}
+use Rattle.atlite_laws.specs.Facts.{and₂, both₂}
 
 -- the numbers of at most k digits
 unfoldable pub room : ℕ → ℕ

@@ -18,7 +18,7 @@ use Rattle.atlite.specs.Keywords.{operators}
 use Rattle.atlite.specs.Reader.{Reading, eat, after, atom, readAtom, readWord, spaced, readItems, readParams, readNames, readHead, readExpr}
 use Rattle.atlite.specs.Valid.{isName, wordsHold}
 use Rattle.atlite.specs.Table.{Named}
-use Rattle.atlite.specs.Facts.{and₂, both₂, or-right, same-true, refused-done}
+use Rattle.atlite_laws.specs.Facts.{and₂, both₂, or-right, same-true, refused-done}
 use Rattle.reading.specs.Numbers.{decimal-print, print-number, number-digits}
 use Rattle.reading.specs.Words.{name-word, number-name}
 use Rattle.reading.specs.Items.{word-parts, closing, form-closing, Ends, ends-closing, item-run}

@@ -18,7 +18,7 @@ use Rattle.atlite.specs.Reader.{Reading, item, after, atom, readAtom, readWord,
 use Rattle.atlite.specs.Keywords.{Operator, bare, naming, letIn, future, fn, when, literal, operators}
 use Rattle.atlite.specs.Valid.{isName}
 use Rattle.atlite.specs.Table.{countFields, countMethods, Named, Grammatical, GrammaticalAll, GrammaticalFields, GrammaticalMethods, GrammaticalLines}
-use Rattle.atlite.specs.Facts.{both₂, or-right, same-true, Every, holds, nothing, every-bind, every-weaken, checked, every-found, every-if, every-test, every-option}
+use Rattle.atlite_laws.specs.Facts.{both₂, or-right, same-true, Every, holds, nothing, every-bind, every-weaken, checked, every-found, every-if, every-test, every-option}
 use Rattle.reading.specs.Numbers.{number-print, number-top}
 use Rattle.reading.specs.Words.{number-word}
 use Rattle.reading.specs.Items.{behind, closing, behind-append, form-closing, item-whole, eat-reads, after-whole, placed-none, Writes, operator-writes}

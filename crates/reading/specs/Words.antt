@@ -14,7 +14,7 @@ use Rattle.atlite.specs.Term.{apply, firstWord}
 use Rattle.atlite.specs.Lexicon.{Bytes, among, isWord, place, numberOf, Lexicon}
 use Rattle.atlite.specs.Printer.{known, printWord}
 use Rattle.atlite.specs.Valid.{isName, wordsHold}
-use Rattle.atlite.specs.Facts.{and₂, both₂, or-false, same-true, same-refl, same-false-sym, none-some}
+use Rattle.atlite_laws.specs.Facts.{and₂, both₂, or-false, same-true, same-refl, same-false-sym, none-some}
 
 -- what `wordsHold` says of the first word
 first-holds : (w : Bytes) (ws : List Bytes) → wordsHold (w ∷ ws) ≡ true

@@ -14,7 +14,7 @@ use Rattle.atlite.specs.Base.{bytes, sameBytes, all, if_then_else_}
 use Rattle.atlite.specs.Lexicon.{Bytes, inWord, isWord, among, noted, wordsFrom, wordsOf, withoutApply, dictionary, letterFirst, isLetter, isDigit}
 use Rattle.atlite.specs.Keywords.{Keywords, reserved}
 use Rattle.atlite.specs.Reader.{item}
-use Rattle.atlite.specs.Facts.{and₂, both₂, or-false, same-true, same-refl, same-false-sym, tests-append}
+use Rattle.atlite_laws.specs.Facts.{and₂, both₂, or-false, same-true, same-refl, same-false-sym, tests-append}
 use Rattle.reading.specs.Items.{Ends}
 use Rattle.reading.specs.Dictionary.{words-run}
 use Rattle.scan.specs.Runs.{Run, index}

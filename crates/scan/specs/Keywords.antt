@@ -16,8 +16,8 @@ use Rattle.atlite.specs.Base.{Base, sameBytes, all, if_then_else_}
 use Rattle.atlite.specs.Lexicon.{Bytes, isLetter, inWord, letterFirst, among, isWord}
 use Rattle.atlite.specs.Keywords.{reserved}
 use Rattle.atlite.specs.Reader.{item, after}
-use Rattle.atlite.specs.Facts.{and₂, same-true, same-refl, none-some}
-use Rattle.layout.specs.Kinds.{Words, keywords, kindOf, kindIn}
+use Rattle.atlite_laws.specs.Facts.{and₂, same-true, same-refl, none-some}
+use Rattle.decoding.specs.Kinds.{Words, keywords, kindOf, kindIn}
 use Rattle.reading.specs.Items.{after-whole}
 use Rattle.scan.specs.Runs.{Run, Starts, index, sized, Unlike, Sized, others}
 

@@ -16,7 +16,7 @@ use mir.Val.{Fits}
 use mir.Syntax.{w64, w32}
 use Rattle.atlite.specs.Base.{sameBytes, all, if_then_else_}
 use Rattle.atlite.specs.Lexicon.{Bytes, isLetter, isDigit, inWord, isWord}
-use Rattle.atlite.specs.Facts.{and₂, both₂, same-refl}
+use Rattle.atlite_laws.specs.Facts.{and₂, both₂, same-refl}
 use Rattle.layout.specs.Layout.{bytesNumber}
 use Rattle.reading.specs.Items.{word-parts}
 use Rattle.scan.specs.Runs.{Run, index}

@@ -5,7 +5,7 @@ ghost use lib.Dec.{eqb};
 ghost use lib.ListN.{length};
 ghost use lib.Seq.{slice};
 ghost use Rattle.atlite.specs.Lexicon.{isWord};
-ghost use Rattle.layout.specs.Kinds.{kindIn};
+ghost use Rattle.decoding.specs.Kinds.{kindIn};
 ghost use Rattle.scan.specs.Runs.{Run, Sized, others};
 use crate::bytes::is_letter;
 use crate::bytes::named;

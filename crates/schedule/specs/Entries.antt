@@ -13,10 +13,10 @@ use Rattle.atlite.specs.State.{Actor, State}
 use Rattle.atlite.specs.Limits.{full, withinLimits}
 use Rattle.atlite.specs.Outcome.{Parcel, Effect, inner, taken, sends, creates, Outcome}
 use Rattle.atlite.specs.Passing.{deliver}
-use Rattle.atlite.specs.Move.{Answer, Inner, Taken, Sent, Created, answerOf, Moved, move}
-use Rattle.atlite.specs.Run.{Ran, begun, after, runFrom, run}
-use Rattle.schedule.specs.Claim.{Event, event, eventsOf, trace, senders, creators, movesOf, Agree}
-use Rattle.atlite.specs.Facts.{none-some}
+use Rattle.atlite.specs.Move.{Answer, Inner, Taken, Sent, Created, answerOf, AfterMove, move}
+use Rattle.atlite.specs.Run.{AfterRun, begun, afterEntry, runFrom, run}
+use Rattle.promises.specs.Claim.{Event, event, eventsOf, trace, senders, creators, movesOf, Agree}
+use Rattle.atlite_laws.specs.Facts.{none-some}
 use Rattle.atlite.specs.Move as S
 use Rattle.channels.specs.Machine as T
 use Rattle.channels.specs.Actors.{quiet, sent, made}
@@ -103,12 +103,12 @@ alike-creators (next says-sent r) = alike-creators r
 alike-creators (next {a} says-created r) = ap (λ l. a ∷ l) (alike-creators r)
 
 -- one entry of the definitions, and one of the machine
-record Entry (σ : State) (a : ℕ) (m : Result Moved) (r : List (ℕ × Deed) × List Actor) : Type 0 where
+record Entry (σ : State) (a : ℕ) (m : Result AfterMove) (r : List (ℕ × Deed) × List Actor) : Type 0 where
   events : Alike (eventsOf a m) (r .0)
-  left : (R : Ran) → R .state ≡ σ → after R m .state ≡ record { words = σ .words; actors = r .1 }
+  left : (R : AfterRun) → R .state ≡ σ → afterEntry R m .state ≡ record { words = σ .words; actors = r .1 }
 
 entry-of : (σ : State) (a : ℕ) → Entry σ a (move σ a) (each a (σ .actors))
-unfolding move S.moveWithin S.limited require eventsOf after
+unfolding move S.moveWithin S.limited require eventsOf afterEntry
 entry-of σ a = go (S.free (σ .actors) a)
   where
     within : (b : Bool) (E : Outcome) → Entry σ a
@@ -122,25 +122,25 @@ entry-of σ a = go (S.free (σ .actors) a)
     go (done E) = within (withinLimits full (S.moved a E (σ .actors))) E
 
 -- a run, and its end
-run-ends : (es : List ℕ) (R : Ran) → runFrom R es .state ≡ record { words = R .state .words; actors = T.ends each es (R .state .actors) }
+run-ends : (es : List ℕ) (R : AfterRun) → runFrom R es .state ≡ record { words = R .state .words; actors = T.ends each es (R .state .actors) }
 unfolding runFrom
 run-ends [] R = refl
 run-ends (a ∷ es) R =
-    run-ends es (after R (move (R .state) a))
+    run-ends es (afterEntry R (move (R .state) a))
     ∙ ap (λ (σ : State). record { words = σ .words; actors = T.ends each es (σ .actors) }) (entry-of (R .state) a .left R refl)
 
 alike : (es : List ℕ) (σ : State) → Alike (trace σ es) (T.moved each es (σ .actors))
 unfolding trace run runFrom
 alike [] σ = end
 alike (a ∷ es) σ =
-    let R : Ran = begun σ in
-    let e : after R (move σ a) .state ≡ record { words = σ .words; actors = (each a (σ .actors)) .1 } = entry-of σ a .left R refl in
+    let R : AfterRun = begun σ in
+    let e : afterEntry R (move σ a) .state ≡ record { words = σ .words; actors = (each a (σ .actors)) .1 } = entry-of σ a .left R refl in
     alike-append (entry-of σ a .events) (rw e (alike es (record { words = σ .words; actors = (each a (σ .actors)) .1 })))
 
 pub same-entries : (σ : State) (xs ys : List ℕ) → Agree (trace σ xs) (trace σ ys) → run σ xs .state ≡ run σ ys .state
 unfolding run
 same-entries σ xs ys h =
-    let R : Ran = begun σ in
+    let R : AfterRun = begun σ in
     let s = σ .actors in
     let e : T.ends each xs s ≡ T.ends each ys s = L.schedules blank local deliver Any Grows laws each
     (L.entry-free blank local deliver Any Grows laws step sound) xs ys s tt
@@ -150,14 +150,14 @@ same-entries σ xs ys h =
     run-ends xs R ∙ ap (λ l. record { words = σ .words; actors = l }) e ∙ sym (run-ends ys R)
 
 -- only the state matters of what a run goes on from
-run-again : (ys : List ℕ) (R : Ran) → runFrom R ys .state ≡ run (R .state) ys .state
+run-again : (ys : List ℕ) (R : AfterRun) → runFrom R ys .state ≡ run (R .state) ys .state
 unfolding run
 run-again ys R = run-ends ys R ∙ sym (run-ends ys (begun (R .state)))
 
-run-append-from : (xs ys : List ℕ) (R : Ran) → runFrom R (xs ++ ys) .state ≡ run (runFrom R xs .state) ys .state
+run-append-from : (xs ys : List ℕ) (R : AfterRun) → runFrom R (xs ++ ys) .state ≡ run (runFrom R xs .state) ys .state
 unfolding runFrom
 run-append-from [] ys R = run-again ys R
-run-append-from (a ∷ xs) ys R = run-append-from xs ys (after R (move (R .state) a))
+run-append-from (a ∷ xs) ys R = run-append-from xs ys (afterEntry R (move (R .state) a))
 
 pub run-append : (xs ys : List ℕ) (σ : State) → run σ (xs ++ ys) .state ≡ run (run σ xs .state) ys .state
 unfolding run
@@ -167,6 +167,6 @@ pub trace-append : (xs ys : List ℕ) (σ : State) → trace σ (xs ++ ys) ≡ t
 unfolding trace run runFrom
 trace-append [] ys σ = refl
 trace-append (a ∷ xs) ys σ =
-    let R : Ran = after (begun σ) (move σ a) in
+    let R : AfterRun = afterEntry (begun σ) (move σ a) in
     ap (λ t. eventsOf a (move σ a) ++ t) (trace-append xs ys (R .state) ∙ ap (λ τ. trace (R .state) xs ++ trace τ ys) (sym (run-again xs R)))
     ∙ sym (append-assoc (eventsOf a (move σ a)) (trace (R .state) xs) _)

@@ -10,19 +10,19 @@ use lib.ListN.{replicate}
 use Rattle.atlite.specs.Base.{if_then_else_, bytes}
 use Rattle.atlite.specs.Loops.{All}
 use Rattle.atlite.specs.Valid.{Valid}
-use Rattle.atlite.specs.ValidTest.{ValidTest}
+use Rattle.decoding.specs.ValidTest.{ValidTest}
 use Rattle.atlite.specs.Move.{Inner, Taken, Sent, Created}
 use Rattle.layout.specs.Numbers.{stateWords, tableWords}
 use Rattle.layout.specs.Pack.{Pack}
 use Rattle.layout.specs.Terms.{Terms·all}
 use Rattle.layout.specs.Layout.{Layout}
 use Rattle.layout.specs.Tables.{Tables}
-use Rattle.layout.specs.Reading.{Reading}
-use Rattle.layout.specs.TermReading.{TermReading}
-use Rattle.layout.specs.Decode.{Decode}
-use Rattle.layout.specs.TableReading.{TableReading}
-use Rattle.layout.specs.Meaning.{Meaning, readCall, loadCall}
-use Rattle.schedule.specs.Claim.{Claim, Call, move, run, Event, event, movedBy, Agree, movesOf, senders}
+use Rattle.decoding.specs.Reading.{Reading}
+use Rattle.decoding.specs.TermReading.{TermReading}
+use Rattle.decoding.specs.Decode.{Decode}
+use Rattle.decoding.specs.TableReading.{TableReading}
+use Rattle.promises.specs.Meaning.{Meaning, readCall, loadCall}
+use Rattle.promises.specs.Claim.{Claim, Call, move, run, Event, event, movedBy, Agree, movesOf, senders}
 
 unfoldable Everything : Unit {0}
 unfolding All Valid ValidTest Pack Terms·all Layout Tables Reading TermReading Decode TableReading Meaning Claim

@@ -11,34 +11,34 @@ use lib.Seq.{take-at, drop-at}
 use Rattle.atlite.specs.Base.{Result, done, refused, _>>=_, _>>_, orRefuse, require}
 use Rattle.atlite.specs.State.{State}
 use Rattle.atlite.specs.Move as M
-use Rattle.atlite.specs.Move.{Moved}
+use Rattle.atlite.specs.Move.{AfterMove}
 use Rattle.atlite.specs.Run as R
-use Rattle.atlite.specs.Run.{begun, after, runFrom}
+use Rattle.atlite.specs.Run.{begun, afterEntry, runFrom}
 use Rattle.atlite.specs.Listing.{listing}
 use Rattle.atlite.specs.Valid.{IsState}
 use lib.Dec.{leb}
 use Rattle.layout.specs.Numbers.{stateWords}
-use Rattle.layout.specs.Decode.{stateOf}
+use Rattle.decoding.specs.Decode.{stateOf}
 use Rattle.invariant.specs.Moves.{run-keeps}
 use Rattle.layout.specs.Pack.{flat}
 use Rattle.layout.specs.Layout.{encode}
-use Rattle.layout.specs.Meaning.{answered, room, stateIn, lent, moveCall, listCall}
-use Rattle.layout.specs.Laws.{state-length}
-use Rattle.layout.specs.Outcomes.{room-enough}
-use Rattle.layout.specs.MeaningLaws.{lent-state, state-lent, lent-short, move-unlent, run-unlent, move-leaves, move-stays, run-leaves}
-use Rattle.schedule.specs.Claim.{Call, move, run, entries, leaves, leftBy, trace, tracedFrom, movedBy, Agree, written, SameEnd, TwoLists}
+use Rattle.promises.specs.Meaning.{answered, room, stateIn, lent, moveCall, listCall}
+use Rattle.layout_laws.specs.StateLaws.{state-length}
+use Rattle.layout_laws.specs.Outcomes.{room-enough}
+use Rattle.layout_laws.specs.MeaningLaws.{lent-state, state-lent, lent-short, move-unlent, run-unlent, move-leaves, move-stays, run-leaves}
+use Rattle.promises.specs.Claim.{Call, move, run, entries, leaves, leftBy, trace, tracedFrom, movedBy, Agree, written, SameEnd, TwoLists}
 use Rattle.schedule.specs.Entries.{same-entries, run-append, trace-append}
 
 -- ---- on the words of a state
-run-one : (σ : State) (a : ℕ) (m : Result Moved) → M.move σ a ≡ m → R.run σ (a ∷ []) .state ≡ after (begun σ) m .state
+run-one : (σ : State) (a : ℕ) (m : Result AfterMove) → M.move σ a ≡ m → R.run σ (a ∷ []) .state ≡ afterEntry (begun σ) m .state
 unfolding R.run runFrom
 run-one σ a m e = rw e
 
 call-leaves : (c : Call) (σ : State) (r : List ℕ) → IsState σ → leaves (encode σ ++ r) c ≡ encode (R.run σ (entries c) .state) ++ r
-unfolding leaves entries after
+unfolding leaves entries afterEntry
 call-leaves (move a) σ r h = go (M.move σ a) refl
   where
-    go : (m : Result Moved) → M.move σ a ≡ m → moveCall (encode σ ++ r) a .buffer ≡ encode (R.run σ (a ∷ []) .state) ++ r
+    go : (m : Result AfterMove) → M.move σ a ≡ m → moveCall (encode σ ++ r) a .buffer ≡ encode (R.run σ (a ∷ []) .state) ++ r
     go (refused n) e = ap (λ R. R .buffer) (move-stays σ r a n h e) ∙ ap (λ τ. encode τ ++ r) (sym (run-one σ a (refused n) e))
     go (done N) e = ap (λ R. R .buffer) (move-leaves σ r a N h e) ∙ ap (λ τ. encode τ ++ r) (sym (run-one σ a (done N) e))
 call-leaves (run es) σ r h = ap (λ R. R .buffer) (run-leaves σ r es h)

@@ -16,10 +16,10 @@ use Rattle.atlite.specs.declared.Printed.{Printed}
 use Rattle.atlite.specs.declared.Printed.the-variants.{Bytes, Refused}
 use Rattle.layout.specs.Numbers.{tableWords}
 use Rattle.layout.specs.Tables.{encodeTable}
-use Rattle.layout.specs.TableReading.{tableOf}
-use Rattle.layout.specs.TableLaws.{table-of-iff}
-use Rattle.layout.specs.Meaning.{answered, tableIn, printCall}
-use Rattle.layout.specs.Outcomes.{room-enough, room-short}
+use Rattle.decoding.specs.TableReading.{tableOf}
+use Rattle.layout_laws.specs.TableLaws.{table-of-iff}
+use Rattle.promises.specs.Meaning.{answered, tableIn, printCall}
+use Rattle.layout_laws.specs.Outcomes.{room-enough, room-short}
 use Rattle.words.specs.Runs.{Copied}
 
 -- The answer is r and the text is new: what `printCall` says of the words t and the bytes old.

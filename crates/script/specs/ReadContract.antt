@@ -15,16 +15,16 @@ use Rattle.atlite.specs.Scope.{bound, single}
 use Rattle.atlite.specs.Keywords.{operators}
 use Rattle.atlite.specs.Reader.{depth, readScript}
 use Rattle.atlite.specs.Table.{Table, read}
-use Rattle.atlite.specs.Facts.{refused-done}
+use Rattle.atlite_laws.specs.Facts.{refused-done}
 use Rattle.atlite.specs.Answers.{readAnswer}
 use Rattle.atlite.specs.declared.Tabled.{Tabled}
 use Rattle.atlite.specs.declared.Tabled.the-variants.{Done, Refused}
 use Rattle.reading.specs.Exact.{read-table}
 use Rattle.layout.specs.Numbers.{tableWords}
 use Rattle.layout.specs.Tables.{encodeTable}
-use Rattle.layout.specs.TableLaws.{table-length}
-use Rattle.layout.specs.Meaning.{answered, readCall}
-use Rattle.layout.specs.Outcomes.{room-enough, room-short}
+use Rattle.layout_laws.specs.TableLaws.{table-length}
+use Rattle.promises.specs.Meaning.{answered, readCall}
+use Rattle.layout_laws.specs.Outcomes.{room-enough, room-short}
 
 -- The answer is r and the table is new: what `readCall` says of the text t and the words old.
 unfoldable pub Reads : List ℕ → List ℕ → Tabled → List ℕ → Type 0

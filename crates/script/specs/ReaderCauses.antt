@@ -19,7 +19,7 @@ use Rattle.reading.specs.Exact.{script-exact}
 use Rattle.layout.specs.Numbers.{linesSize, tableWords}
 use Rattle.layout.specs.Pack.{flat}
 use Rattle.layout.specs.Tables.{encodeLine}
-use Rattle.layout.specs.TableFitting.{lines-length}
+use Rattle.layout_laws.specs.TableFitting.{lines-length}
 use Rattle.words.specs.Wide.{wideSrc, wideLine, wideLines}
 use Rattle.checks.specs.Narrow.{narrow-lines, length-narrow}
 use Rattle.checks.specs.LinesAt.{Stands}

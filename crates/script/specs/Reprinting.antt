@@ -9,16 +9,16 @@ use lib.ListN.{length, take, drop}
 use lib.Seq.{take-at}
 use Rattle.atlite.specs.Base.{done}
 use Rattle.atlite.specs.Table.{Table, textOf}
-use Rattle.atlite.specs.Facts.{refused-done}
+use Rattle.atlite_laws.specs.Facts.{refused-done}
 use Rattle.atlite.specs.Answers.{readAnswer}
 use Rattle.atlite.specs.declared.Tabled.{Tabled}
 use Rattle.atlite.specs.declared.Tabled.the-variants.{Done, Refused}
 use Rattle.atlite.specs.declared.Printed.the-variants as P
 use Rattle.layout.specs.Numbers.{tableWords}
 use Rattle.layout.specs.Tables.{encodeTable}
-use Rattle.layout.specs.TableLaws.{table-length}
-use Rattle.layout.specs.Meaning.{readCall}
-use Rattle.layout.specs.MeaningLaws.{read-done, read-leaves}
+use Rattle.layout_laws.specs.TableLaws.{table-length}
+use Rattle.promises.specs.Meaning.{readCall}
+use Rattle.layout_laws.specs.MeaningLaws.{read-done, read-leaves}
 use Rattle.words.specs.Runs.{Same}
 use Rattle.printer.specs.declared.Written.{Written}
 use Rattle.printer.specs.declared.Written.the-variants.{Bytes, Bad}

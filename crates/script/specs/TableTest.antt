@@ -9,16 +9,16 @@ use borrow.Author.Needs.{needs}
 use lib.ListN.{length, take, drop, take-append-drop}
 use Rattle.atlite.specs.Base.{done, orRefuse, isDone}
 use Rattle.atlite.specs.Table.{Table, textOf}
-use Rattle.atlite.specs.Facts.{refused-done}
+use Rattle.atlite_laws.specs.Facts.{refused-done}
 use Rattle.atlite.specs.Answers.{printAnswer}
 use Rattle.atlite.specs.declared.Printed.{Printed}
 use Rattle.atlite.specs.declared.Printed.the-variants.{Bytes, Refused}
 use Rattle.layout.specs.Numbers.{tableWords}
-use Rattle.layout.specs.TableReading.{tableOf}
-use Rattle.layout.specs.TableLaws.{table-of-iff}
-use Rattle.layout.specs.Meaning.{tableIn, printCall}
-use Rattle.layout.specs.Outcomes.{answer-writes}
-use Rattle.layout.specs.MeaningLaws.{print-outcome, print-leaves}
+use Rattle.decoding.specs.TableReading.{tableOf}
+use Rattle.layout_laws.specs.TableLaws.{table-of-iff}
+use Rattle.promises.specs.Meaning.{tableIn, printCall}
+use Rattle.layout_laws.specs.Outcomes.{answer-writes}
+use Rattle.layout_laws.specs.MeaningLaws.{print-outcome, print-leaves}
 use Rattle.script.specs.PrintContract.{Prints}
 
 module _ (t old : List ℕ) where

@@ -5,7 +5,7 @@ ghost use lib.ListN.{length, take};
 ghost use Rattle.atlite.specs.Base.{isDone};
 ghost use Rattle.atlite.specs.Answers.{printAnswer};
 ghost use Rattle.layout.specs.Numbers.{tableWords};
-ghost use Rattle.layout.specs.Meaning.{tableIn, printCall};
+ghost use Rattle.promises.specs.Meaning.{tableIn, printCall};
 ghost use Rattle.script.specs.PrintContract.{Prints, Given, IsText, Front};
 use atlite::Printed;
 use atlite::Tabled;

@@ -3,7 +3,7 @@ ghost use mathlib.Core.Path.{_≡_};
 ghost use Prim.Native.Nat.{_+_, _≤_, _<_};
 ghost use Rattle.atlite.specs.Base.{if_then_else_};
 ghost use Rattle.atlite.specs.Answers.{readAnswer};
-ghost use Rattle.layout.specs.Meaning.{readCall};
+ghost use Rattle.promises.specs.Meaning.{readCall};
 ghost use Rattle.script.specs.ReadContract.{Reads};
 ghost use Rattle.script.specs.ReaderCauses.{Sized, Grammar, Scoped, Sound};
 use atlite::Tabled;

@@ -18,15 +18,16 @@ use Rattle.atlite.specs.Term.{Name, plain, Op, call, send, written, shape}
 use Rattle.layout.specs.Numbers.{payload, fieldKind, noName}
 use Rattle.layout.specs.Pack.{node}
 use Rattle.layout.specs.Terms.{tagged, opKind, opNode}
-use Rattle.layout.specs.TermLaws.{bare-count, field-payload, field-count, OpFits}
-use Rattle.layout.specs.TermReads.{label-small}
+use Rattle.layout_laws.specs.TermLaws.{bare-count, field-payload, field-count, OpFits}
+use Rattle.layout_laws.specs.TermReads.{label-small}
 use Rattle.layout.specs.Tables.{srcKind, srcPayload}
-use Rattle.layout.specs.Kinds.{rowIn, wordIn, op-kind, Row, isBare, isField, isCall, isSend, row, SrcRow, src-row}
-use Rattle.layout.specs.KindLaws.{Unasked, bare-row, bare-unasked, field-row}
-use Rattle.layout.specs.Parse.{many}
-use Rattle.layout.specs.ParseHeads.{head-op}
-use Rattle.layout.specs.Arity.{arity, head-wants}
-use Rattle.layout.specs.Fitting.{shape-fits}
+use Rattle.decoding.specs.Kinds.{rowIn, wordIn}
+use Rattle.layout_laws.specs.KindRows.{op-kind, Row, isBare, isField, isCall, isSend, row, SrcRow, src-row}
+use Rattle.layout_laws.specs.KindLaws.{Unasked, bare-row, bare-unasked, field-row}
+use Rattle.layout_laws.specs.Parse.{many}
+use Rattle.layout_laws.specs.ParseHeads.{head-op}
+use Rattle.layout_laws.specs.Arity.{arity, head-wants}
+use Rattle.layout_laws.specs.Fitting.{shape-fits}
 use Rattle.showing.specs.TextOfWords.{nameIn, firstIn, second, paramsIn, after, afterIn, operatorIn, headIn, TextOfWords·all}
 use Rattle.showing.specs.Spelling.{Spells}
 use Rattle.showing.specs.Says.{Says, plainly, naming}

@@ -12,9 +12,9 @@ use Rattle.atlite.specs.Keywords.{methodWord}
 use Rattle.atlite.specs.Printer.{form}
 use Rattle.reading.specs.Items.{behind, behind-append, form-closing}
 use Rattle.layout.specs.Numbers.{payload, fieldKind, nameLimit, noName, taggedLimit, secondPlace, thirdPlace}
-use Rattle.layout.specs.Arity.{arity, arity-header}
-use Rattle.layout.specs.Kinds.{Words, rowOf}
-use Rattle.layout.specs.KindLaws.{row-none}
+use Rattle.layout_laws.specs.Arity.{arity, arity-header}
+use Rattle.decoding.specs.Kinds.{Words, rowOf}
+use Rattle.layout_laws.specs.KindLaws.{row-none}
 use Rattle.showing.specs.TextOfWords.{nameIn, firstIn, second, placesIn, paramsIn, after, afterIn, count, operatorIn, headIn, Text}
 
 -- ---- items

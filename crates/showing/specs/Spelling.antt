@@ -13,10 +13,10 @@ use Rattle.atlite.specs.Lexicon.{Bytes}
 use Rattle.atlite.specs.Printer.{printWord, known}
 use Rattle.layout.specs.Numbers.{noName}
 use Rattle.layout.specs.Pack.{zeros, flat}
-use Rattle.layout.specs.PackLaws.{Each, pack-low, pack-high}
+use Rattle.layout_laws.specs.PackLaws.{Each, pack-low, pack-high}
 use Rattle.layout.specs.Layout.{bytesNumber, threeWords, encodeWord}
-use Rattle.layout.specs.StateReads.{ByteFits, WordFits}
-use Rattle.layout.specs.Bits.{word-small}
+use Rattle.layout_laws.specs.StateReads.{ByteFits, WordFits}
+use Rattle.layout_laws.specs.Bits.{word-small}
 use Rattle.showing.specs.TextOfWords.{letterIn, lettersIn, knownIn, wordIn}
 
 -- ---- one word

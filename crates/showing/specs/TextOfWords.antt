@@ -12,8 +12,8 @@ use Rattle.atlite.specs.Lexicon.{Bytes}
 use Rattle.atlite.specs.Keywords.{nullWord, thisWord}
 use Rattle.atlite.specs.Printer.{printNumber}
 use Rattle.layout.specs.Numbers.{payload, fieldKind, nameLimit, noName, taggedLimit, secondPlace, thirdPlace, numberLimit, ownerUnit, ownerLimit}
-use Rattle.layout.specs.Kinds.{Kinds, Words, rowIn, wordIn as wordOf}
-use Rattle.layout.specs.Arity.{arity}
+use Rattle.decoding.specs.Kinds.{Kinds, Words, rowIn, wordIn as wordOf}
+use Rattle.layout_laws.specs.Arity.{arity}
 
 -- ---- names
 -- a byte of a word; zero is none

@@ -15,12 +15,12 @@ use Rattle.atlite.specs.Term.{made, copied, Value, null, num, ref, Name, plain,
 use Rattle.reading.specs.Items.{behind, form-closing}
 use Rattle.layout.specs.Numbers.{payload, fieldKind, nameLimit, noName, tagLimit, taggedLimit, pairLimit, placesLimit, numberLimit, ownerUnit, ownerLimit, digitLimit, exprSize}
 use Rattle.layout.specs.Pack.{node, places}
-use Rattle.layout.specs.PackLaws.{NameFits, Each}
+use Rattle.layout_laws.specs.PackLaws.{NameFits, Each}
 use Rattle.layout.specs.Terms.{variable, seriesBit, encodeValue, tagged, asked, kindNumber, methodHeader}
-use Rattle.layout.specs.TermLaws.{ValueFits, NameOk}
-use Rattle.layout.specs.Parse.{parts}
-use Rattle.layout.specs.ParseHeads.{head-literal}
-use Rattle.layout.specs.Arity.{arity, head-wants}
+use Rattle.layout_laws.specs.TermLaws.{ValueFits, NameOk}
+use Rattle.layout_laws.specs.Parse.{parts}
+use Rattle.layout_laws.specs.ParseHeads.{head-literal}
+use Rattle.layout_laws.specs.Arity.{arity, head-wants}
 use Rattle.showing.specs.TextOfWords.{wordIn, taggedIn, nameIn, openIn, placesIn, seriesIn, ownerIn, refIn, leafIn, shown, TextOfWords·all}
 use Rattle.showing.specs.Spelling.{Spells, spelt, unspelt}
 use Rattle.showing.specs.Says.{Says, showing, plainly, naming, says-method}

@@ -7,7 +7,7 @@ use Prim.Native.Nat.{ℕ, _+_, _≤_, _<_}
 use native.Mathlib.Omega.{arith}
 use lib.ListN.{length, set, length-append}
 use lib.Seq.{sets, set-out}
-use Rattle.layout.specs.Writes.{sets-append}
+use Rattle.layout_laws.specs.Writes.{sets-append}
 
 -- where positions stop
 abbrev pub most : ℕ

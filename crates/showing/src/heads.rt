@@ -43,7 +43,7 @@ pub fn name_after(h: u32) -> usize
     ensures { λ r. ⌜ Tagged (after h) r ⌝ }
 {
     let k = h / PAYLOAD;
-    if layout::kinds::operator(k) == 2 {
+    if kinds::operator(k) == 2 {
         return (h % NAME_LIMIT) as usize;
     }
     match k {
@@ -59,7 +59,7 @@ pub fn name_after(h: u32) -> usize
 pub fn operand_count(h: u32) -> usize
     ensures { λ r. ⌜ Counted (count h) r ⌝ }
 {
-    let n = layout::kinds::arity(h);
+    let n = kinds::arity(h);
     if 14 < n {
         return 14;
     }

@@ -4,7 +4,7 @@ ghost use Prim.Native.Nat.{_-_, _≤_, _<_};
 ghost use lib.ListN.{length};
 ghost use Rattle.atlite.specs.Printer.{printNumber};
 ghost use Rattle.layout.specs.Numbers.{noName, taggedLimit, headSize};
-ghost use Rattle.layout.specs.Kinds.{wordIn as wordOf};
+ghost use Rattle.decoding.specs.Kinds.{wordIn as wordOf};
 ghost use Rattle.showing.specs.Writer.{Wrote};
 ghost use Rattle.showing.specs.TextOfWords.{letterIn, lettersIn, knownIn, wordIn, taggedIn, nameIn};
 

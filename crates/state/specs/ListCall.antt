@@ -18,16 +18,12 @@ use Rattle.atlite.specs.declared.Listed.{Listed}
 use Rattle.atlite.specs.declared.Listed.the-variants.{Bytes, Refused}
 use Rattle.layout.specs.Numbers.{stateWords}
 use Rattle.layout.specs.Layout.{encode}
-use Rattle.layout.specs.Decode.{stateOf}
-use Rattle.layout.specs.Laws.{state-of-iff}
-use Rattle.layout.specs.Meaning.{answered, stateIn, lent, listCall}
-use Rattle.layout.specs.Outcomes.{room-enough, room-short}
-use Rattle.atlite.specs.Facts.{found}
+use Rattle.decoding.specs.Decode.{stateOf}
+use Rattle.layout_laws.specs.StateLaws.{state-of-iff}
+use Rattle.promises.specs.Meaning.{answered, stateIn, lent, listCall, ListsCall}
+use Rattle.layout_laws.specs.Outcomes.{room-enough, room-short}
+use Rattle.atlite_laws.specs.Facts.{found}
 use Rattle.lister.specs.ListContract.{Lists}
-
--- The answer is r and the text is new: what `listCall` says of the words w and the text old.
-unfoldable pub ListsCall : List ℕ → List ℕ → Listed → List ℕ → Type 0
-ListsCall w old r new = (listAnswer r ≡ listCall w old .result) × (new ≡ listCall w old .buffer)
 
 -- r is the length of the listing of the state in the words w
 unfoldable pub Measures : List ℕ → ℕ → Type 0

@@ -16,18 +16,18 @@ use Rattle.atlite.specs.Term.{Value}
 use Rattle.atlite.specs.State.{Actor, State, isFuture}
 use Rattle.atlite.specs.Limits.{full, withinActor, withinLimits}
 use Rattle.atlite.specs.Valid.{IsActor, IsState, MayHold}
-use Rattle.atlite.specs.ValidTest.{holdable}
-use Rattle.atlite.specs.Facts.{none-some, and₂, both₂}
+use Rattle.decoding.specs.ValidTest.{holdable}
+use Rattle.atlite_laws.specs.Facts.{none-some, and₂, both₂}
 use Rattle.invariant.specs.Monotonicity.{actor-up}
 use Rattle.invariant.specs.Tests.{hold-to, hold-from}
 use Rattle.layout.specs.Numbers.{slotCount, stateSlots, partSize, headSize, partsSize, tailSize, stateWords, wordSize}
 use Rattle.layout.specs.Pack.{zeros, pad, flat}
-use Rattle.layout.specs.PackLaws.{Each, pad-front, length-zeros, length-flat}
+use Rattle.layout_laws.specs.PackLaws.{Each, pad-front, length-zeros, length-flat}
 use Rattle.layout.specs.Layout.{encodeActor, encodeWord, encode}
-use Rattle.layout.specs.Parts.{ActorFits, actor-length}
-use Rattle.layout.specs.StateReads.{StateFits, topWords, actors-parts, words-three, count0, count1, actors-at, words-are}
-use Rattle.layout.specs.Writes.{zeros-split}
-use Rattle.layout.specs.StateFits.{state-fits}
+use Rattle.layout_laws.specs.Parts.{ActorFits, actor-length}
+use Rattle.layout_laws.specs.StateReads.{StateFits, topWords, actors-parts, words-three, count0, count1, actors-at, words-are}
+use Rattle.layout_laws.specs.Writes.{zeros-split}
+use Rattle.layout_laws.specs.StateFits.{state-fits}
 use Rattle.dictionary.specs.Entries.{entriesAt, entriesHold}
 use Rattle.dictionary.specs.EntryLaws.{entries-encoded, length-entries}
 use Rattle.actor.specs.PartContract.{IsPart}

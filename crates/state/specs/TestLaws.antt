@@ -14,9 +14,9 @@ use Rattle.atlite.specs.Base.{orRefuse, isDone}
 use Rattle.atlite.specs.State.{State}
 use Rattle.layout.specs.Numbers.{partSize, headSize, stateWords}
 use Rattle.layout.specs.Pack.{zeros}
-use Rattle.layout.specs.Decode.{stateOf}
-use Rattle.layout.specs.Laws.{state-of-iff, state-length}
-use Rattle.layout.specs.Meaning.{stateIn}
+use Rattle.decoding.specs.Decode.{stateOf}
+use Rattle.layout_laws.specs.StateLaws.{state-of-iff, state-length}
+use Rattle.promises.specs.Meaning.{stateIn}
 use Rattle.words.specs.Runs.{Same}
 use Rattle.dictionary.specs.Entries.{entriesHold}
 use Rattle.actor.specs.PartContract.{Decides, IsPart}

@@ -7,9 +7,9 @@ use mathlib.Core.Option.{Option, some}
 use native.Mathlib.Omega.{arith}
 use lib.ListN.{length, getD, List·getD-eq-default}
 use Rattle.atlite.specs.Term.{Term, Terms, nil, Inits, noField, Methods, noMethod}
-use Rattle.layout.specs.Kinds.{Kinds}
-use Rattle.layout.specs.Parse.{Got, none, got, onGot, pair, behind, headOf, headIn, headAt, fieldAt, methodAt, termsBy, initsBy, methodsBy, formed, parseTerms, parseInits, parseMethods}
-use Rattle.layout.specs.ParseLaws.{parse, parse-step}
+use Rattle.decoding.specs.Kinds.{Kinds}
+use Rattle.layout_laws.specs.Parse.{Got, none, got, onGot, pair, behind, headOf, headIn, headAt, fieldAt, methodAt, termsBy, initsBy, methodsBy, formed, parseTerms, parseInits, parseMethods}
+use Rattle.layout_laws.specs.ParseLaws.{parse, parse-step}
 use Rattle.wellformed.specs.Words.{within}
 use Rattle.wellformed.specs.Ends.{endOf}
 

@@ -11,15 +11,15 @@ use lib.Dec.{eqb, ltb}
 use Rattle.atlite.specs.Base.{member}
 use Rattle.atlite.specs.Term.{this, Value, Kind, Inits, noField, Methods, noMethod, method, signatures, seen}
 use Rattle.atlite.specs.Valid.{isName, isVariable, methodsNamed, parameters}
-use Rattle.atlite.specs.ValidTest.{held, wellFormed, wellFormedAll, wellFormedMethods}
+use Rattle.decoding.specs.ValidTest.{held, wellFormed, wellFormedAll, wellFormedMethods}
 use Rattle.layout.specs.Numbers.{payload, nameLimit, noName, tagLimit, taggedLimit, thirdPlace, pairLimit}
-use Rattle.layout.specs.PackLaws.{Each}
-use Rattle.layout.specs.Signatures.{signed}
-use Rattle.layout.specs.LastThree.{kept}
+use Rattle.layout_laws.specs.PackLaws.{Each}
+use Rattle.layout_laws.specs.Signatures.{signed}
+use Rattle.layout_laws.specs.LastThree.{kept}
 use Rattle.layout.specs.Terms.{kindNumber}
-use Rattle.layout.specs.Kinds.{rowIn}
-use Rattle.layout.specs.Parse.{Got, none, got, literalHead, headIn, headAt, fieldAt, methodAt, formed, parseTerms, parseInits, parseMethods}
-use Rattle.layout.specs.ParseLaws.{parse}
+use Rattle.decoding.specs.Kinds.{rowIn}
+use Rattle.layout_laws.specs.Parse.{Got, none, got, literalHead, headIn, headAt, fieldAt, methodAt, formed, parseTerms, parseInits, parseMethods}
+use Rattle.layout_laws.specs.ParseLaws.{parse}
 use Rattle.wellformed.specs.Words.{within, holds}
 
 unfoldable pub endOf : {A : Type 0} → (A → Bool) → Got A → ℕ

@@ -9,17 +9,18 @@ use borrow.Author.Needs.{needs}
 use borrow.Author.Tests.{lt-ltb, lt-leb, ltb-false, eq-eqb, ne-eqb}
 use lib.Dec.{eqb, ltb}
 use lib.ListN.{length}
-use Rattle.atlite.specs.Facts.{and₂}
+use Rattle.atlite_laws.specs.Facts.{and₂}
 use Rattle.atlite.specs.Term.{Value, Name, plain, twoWay, resolve, register, Kind, Op, call, send, written, var, letIn, future}
 use Rattle.atlite.specs.Valid.{isName, isVariable, sendable, callable, operable}
-use Rattle.atlite.specs.ValidTest.{wellFormed}
+use Rattle.decoding.specs.ValidTest.{wellFormed}
 use Rattle.layout.specs.Numbers.{payload, nameLimit, noName, tagLimit, thirdPlace, pairLimit, bodiesSize}
-use Rattle.layout.specs.PackLaws.{pack-low}
+use Rattle.layout_laws.specs.PackLaws.{pack-low}
 use Rattle.layout.specs.Terms.{kindNumber}
-use Rattle.layout.specs.Kinds.{Kinds, Form, nothing, nullValue, number, reference, variable, bare, onField, calls, sends, formKind, rowOf, rowIn, by-kind as by-form}
-use Rattle.layout.specs.KindLaws.{bare-row, field-row, bare-found, field-found}
-use Rattle.layout.specs.Parse.{valueIn, valueAt, nameOf, noHead, unary, binary, many, only, valueHead, askHead, askIn, headOf, headIn, headAt, formed}
-use Rattle.layout.specs.ParseLaws.{parse}
+use Rattle.decoding.specs.Kinds.{Kinds, Form, nothing, nullValue, number, reference, variable, bare, onField, calls, sends, formKind, rowOf, rowIn}
+use Rattle.layout_laws.specs.KindRows.{by-kind as by-form}
+use Rattle.layout_laws.specs.KindLaws.{bare-row, field-row, bare-found, field-found}
+use Rattle.layout_laws.specs.Parse.{valueIn, valueAt, nameOf, noHead, unary, binary, many, only, valueHead, askHead, askIn, headOf, headIn, headAt, formed}
+use Rattle.layout_laws.specs.ParseLaws.{parse}
 use Rattle.checks.specs.Bound.{Swapped, Kept}
 use Rattle.wellformed.specs.Words.{within, sendIn, callIn}
 use Rattle.wellformed.specs.WordLaws.{name-past}

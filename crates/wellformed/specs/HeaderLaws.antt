@@ -10,11 +10,11 @@ use borrow.Author.Tests.{lt-ltb, le-ltb, le-leb, lt-leb, eq-eqb, ne-eqb, ltb-fal
 use lib.Dec.{eqb, ltb, leb}
 use Rattle.atlite.specs.Base.{if_then_else_, all, any, distinctBy}
 use Rattle.atlite.specs.Valid.{isName, isVariable, fewDistinct, parameters}
-use Rattle.atlite.specs.Facts.{and₂}
+use Rattle.atlite_laws.specs.Facts.{and₂}
 use Rattle.layout.specs.Numbers.{payload, fieldKind, methodUnit, nameLimit, noName, tagLimit, taggedLimit, secondPlace, thirdPlace, digitLimit}
-use Rattle.layout.specs.Parse.{fieldAt, placesIn, paramsAt, named, methodAt}
-use Rattle.layout.specs.ParseWords.{Holding}
-use Rattle.layout.specs.LastThree.{fresh}
+use Rattle.layout_laws.specs.Parse.{fieldAt, placesIn, paramsAt, named, methodAt}
+use Rattle.layout_laws.specs.ParseWords.{Holding}
+use Rattle.layout_laws.specs.LastThree.{fresh}
 use Rattle.wellformed.specs.Words.{within}
 use Rattle.wellformed.specs.Ends.{isNew, Met, fieldHead, FieldHeader, two, third, empty, sign, methodHead, MethodHeader}
 use Rattle.wellformed.specs.NameLaws.{name-below, name-above, variable-below, signed-word, met-fresh}

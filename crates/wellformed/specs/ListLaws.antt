@@ -11,12 +11,12 @@ use native.Mathlib.Omega.{arith}
 use borrow.Author.Needs.{needs}
 use lib.ListN.{length, getD}
 use Rattle.atlite.specs.Term.{Value, Term, cons, Inits, Methods, method}
-use Rattle.atlite.specs.ValidTest.{wellFormed, wellFormedAll}
+use Rattle.decoding.specs.ValidTest.{wellFormed, wellFormedAll}
 use Rattle.layout.specs.Numbers.{payload, taggedLimit, bodiesSize}
-use Rattle.layout.specs.Parse.{pair, headAt, fieldAt, methodAt, termsBy, initsBy, methodsBy, parseTerms, parseInits, parseMethods}
-use Rattle.layout.specs.ParseWords.{holding, field-word}
-use Rattle.layout.specs.ParseLaws.{parse, parse-step}
-use Rattle.layout.specs.LastThree.{noted}
+use Rattle.layout_laws.specs.Parse.{pair, headAt, fieldAt, methodAt, termsBy, initsBy, methodsBy, parseTerms, parseInits, parseMethods}
+use Rattle.layout_laws.specs.ParseWords.{holding, field-word}
+use Rattle.layout_laws.specs.ParseLaws.{parse, parse-step}
+use Rattle.layout_laws.specs.LastThree.{noted}
 use Rattle.checks.specs.Bound.{Kept}
 use Rattle.wellformed.specs.Ends.{endOf, Scope, bound, Met, fieldHead, sign, FieldHeader, methodHead, MethodHeader, fieldsWell, methodsWell, termsEnd, Leaf, Closed, Operands, TermEnds, Left, FieldsEnd, MethodsEnd, FormEnds}
 use Rattle.wellformed.specs.ScopeLaws.{method-bound}

@@ -10,19 +10,19 @@ use borrow.Author.Tests.{le-leb, lt-leb, lt-ltb, leb-true}
 use lib.Dec.{eqb, leb, ltb}
 use lib.ListN.{length, set, replicate}
 use Rattle.atlite.specs.Base.{member, all, distinctBy}
-use Rattle.atlite.specs.Facts.{and₂}
+use Rattle.atlite_laws.specs.Facts.{and₂}
 use Rattle.atlite.specs.Term.{this, Value, Kind, literal, Inits, noField, Methods, noMethod, method, initNames, Signature, sameSignature, signatures, seen}
 use Rattle.atlite.specs.Valid.{isName, fewDistinct, fieldsNamed, methodsNamed, parameters}
-use Rattle.atlite.specs.ValidTest.{held, wellFormed, wellFormedInits, wellFormedMethods}
+use Rattle.decoding.specs.ValidTest.{held, wellFormed, wellFormedInits, wellFormedMethods}
 use Rattle.layout.specs.Numbers.{payload, nameLimit, digitLimit, bodiesSize}
 use Rattle.layout.specs.Terms.{countInits, countMethods}
-use Rattle.layout.specs.Parse.{parts, formed, parseInits, parseMethods}
-use Rattle.layout.specs.ParseSound.{inits-sound, methods-sound}
-use Rattle.layout.specs.ParseLaws.{parse}
+use Rattle.layout_laws.specs.Parse.{parts, formed, parseInits, parseMethods}
+use Rattle.layout_laws.specs.ParseSound.{inits-sound, methods-sound}
+use Rattle.layout_laws.specs.ParseLaws.{parse}
 use Rattle.checks.specs.Bound.{Swapped, Kept}
-use Rattle.layout.specs.Fitting.{each-all, count-inits, count-methods}
-use Rattle.layout.specs.Signatures.{signed, Below, signed-distinct}
-use Rattle.layout.specs.LastThree.{distinctFrom, from-none}
+use Rattle.layout_laws.specs.Fitting.{each-all, count-inits, count-methods}
+use Rattle.layout_laws.specs.Signatures.{signed, Below, signed-distinct}
+use Rattle.layout_laws.specs.LastThree.{distinctFrom, from-none}
 use Rattle.wellformed.specs.Kinds.{allowed}
 use Rattle.wellformed.specs.Words.{holds}
 use Rattle.wellformed.specs.Ends.{endOf, methodsHold, Scope, isNew, fieldHead, sign, methodHead, fieldsWell, methodsWell, TermEnds, FieldsEnd, MethodsEnd, LiteralEnds, Opens, Refers}

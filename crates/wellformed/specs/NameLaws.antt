@@ -10,12 +10,12 @@ use borrow.Author.Tests.{ltb-true, leb-true}
 use lib.Dec.{ltb, leb}
 use Rattle.atlite.specs.Base.{if_then_else_, member}
 use Rattle.atlite.specs.Valid.{isName, isVariable}
-use Rattle.atlite.specs.Facts.{and₂}
+use Rattle.atlite_laws.specs.Facts.{and₂}
 use Rattle.layout.specs.Numbers.{noName, taggedLimit}
-use Rattle.layout.specs.Parse.{methodAt}
-use Rattle.layout.specs.ParseWords.{Holding, MethodIs, method-word}
-use Rattle.layout.specs.Signatures.{header-signed}
-use Rattle.layout.specs.LastThree.{kept, fresh, noted, fresh-first, fresh-second, fresh-third, fresh-yes, room, kept-fresh, kept-noted}
+use Rattle.layout_laws.specs.Parse.{methodAt}
+use Rattle.layout_laws.specs.ParseWords.{Holding, MethodIs, method-word}
+use Rattle.layout_laws.specs.Signatures.{header-signed}
+use Rattle.layout_laws.specs.LastThree.{kept, fresh, noted, fresh-first, fresh-second, fresh-third, fresh-yes, room, kept-fresh, kept-noted}
 use Rattle.wellformed.specs.Ends.{sign, Met}
 
 -- ---- in range

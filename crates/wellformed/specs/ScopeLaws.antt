@@ -12,12 +12,12 @@ use lib.ListN.{length, getD, set, replicate, length-set, getD-replicate, List·g
 use lib.Seq.{getD-set-same, getD-set-other}
 use Rattle.atlite.specs.Base.{if_then_else_, member, any}
 use Rattle.atlite.specs.Term.{Kind, seen}
-use Rattle.atlite.specs.ValidTest.{held}
-use Rattle.atlite.specs.Facts.{eqb-same}
+use Rattle.decoding.specs.ValidTest.{held}
+use Rattle.atlite_laws.specs.Facts.{eqb-same}
 use Rattle.layout.specs.Numbers.{payload, methodUnit, nameLimit, noName, tagLimit, taggedLimit, thirdPlace, pairLimit, numberLimit}
 use Rattle.layout.specs.Terms.{kindNumber}
-use Rattle.layout.specs.Parse.{given, placeForms, placesIn, paramsAt, named, methodAt}
-use Rattle.layout.specs.ParseWords.{along-getD, Holding, under}
+use Rattle.layout_laws.specs.Parse.{given, placeForms, placesIn, paramsAt, named, methodAt}
+use Rattle.layout_laws.specs.ParseWords.{along-getD, Holding, under}
 use Rattle.checks.specs.Bound.{Swapped, swapped, Kept, kept, put-back}
 use Rattle.wellformed.specs.Words.{holds}
 use Rattle.wellformed.specs.Ends.{Scope, Sees, bound, Bound, Unbound, Opens, Refers}

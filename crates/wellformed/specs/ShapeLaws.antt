@@ -6,12 +6,12 @@ use mathlib.Core.List.{List}
 use lib.ListN.{length}
 use Rattle.atlite.specs.Term.{Value, Name, Op, Term, op, Terms, nil, cons, countTerms}
 use Rattle.atlite.specs.Valid.{operable}
-use Rattle.atlite.specs.ValidTest.{wellFormed, wellFormedAll}
+use Rattle.decoding.specs.ValidTest.{wellFormed, wellFormedAll}
 use Rattle.layout.specs.Numbers.{payload}
-use Rattle.layout.specs.Parse.{Got, none, got, pair, Head, leaf, unary, binary, many, only, headIn, formed, parseTerms}
-use Rattle.layout.specs.ParseSound.{terms-sound}
-use Rattle.layout.specs.ParseHeads.{head-kind}
-use Rattle.layout.specs.ParseLaws.{parse}
+use Rattle.layout_laws.specs.Parse.{Got, none, got, pair, Head, leaf, unary, binary, many, only, headIn, formed, parseTerms}
+use Rattle.layout_laws.specs.ParseSound.{terms-sound}
+use Rattle.layout_laws.specs.ParseHeads.{head-kind}
+use Rattle.layout_laws.specs.ParseLaws.{parse}
 use Rattle.wellformed.specs.Ends.{endOf, termsEnd, wordEnd}
 use Rattle.wellformed.specs.EndLaws.{ends-on, ends-on-none, ends-pair-none}
 

@@ -14,8 +14,8 @@ use Rattle.atlite.specs.declared.MadeNo.{MadeNo}
 use Rattle.atlite.specs.declared.CopyNo.{CopyNo}
 use Rattle.atlite.specs.Valid.{isName, isVariable, sendable, callable, unreferring}
 use Rattle.layout.specs.Numbers.{payload, nameLimit, noName, tagLimit, numberLimit, slotCount}
-use Rattle.layout.specs.Parse.{valueIn, valueAt, nameOf}
-use Rattle.layout.specs.TermReading.{seriesIn, refIn}
+use Rattle.layout_laws.specs.Parse.{valueIn, valueAt, nameOf}
+use Rattle.decoding.specs.TermReading.{seriesIn, refIn}
 use Rattle.heap.specs.declared.EntityNo.{EntityNo}
 use Rattle.heap.specs.declared.EntityNo.the-variants.{Made, Copied}
 use Rattle.heap.specs.EntityNumbers.{seriesOf, numberOf, EntityIn}

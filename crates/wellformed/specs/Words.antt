@@ -8,7 +8,7 @@ use lib.Dec.{eqb}
 use Rattle.atlite.specs.Term.{Value}
 use Rattle.atlite.specs.Valid.{sendable, callable, unreferring}
 use Rattle.layout.specs.Numbers.{nameLimit, tagLimit}
-use Rattle.layout.specs.Parse.{nameOf}
+use Rattle.layout_laws.specs.Parse.{nameOf}
 use Rattle.wellformed.specs.Kinds.{allowed}
 
 -- what is there, and passes

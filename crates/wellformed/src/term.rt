@@ -16,7 +16,6 @@ use layout::PAIR_LIMIT;
 use layout::PAYLOAD;
 use layout::STATE_SLOTS;
 use layout::TAGGED_LIMIT;
-use layout::kinds as table;
 
 // What holds where a term stands: whose it is, how many words the state has, whether it may refer, and the level of its scope.
 pub struct Context {
@@ -73,9 +72,9 @@ fn operands(h: u32, words: u32) -> usize
 {
     let k = h / PAYLOAD;
     let p = h % PAYLOAD;
-    match table::operator(k) {
-        1 => counted(p == 0, table::operands(k) as usize),
-        2 => counted(word::is_name(p, words), table::operands(k) as usize),
+    match kinds::operator(k) {
+        1 => counted(p == 0, kinds::operands(k) as usize),
+        2 => counted(word::is_name(p, words), kinds::operands(k) as usize),
         _ => message_operands(h, words),
     }
 }

@@ -5,7 +5,7 @@ ghost use Prim.Native.Nat.{_≤_, _%_};
 ghost use lib.Dec.{leb};
 ghost use Rattle.atlite.specs.Valid.{isName, isVariable};
 ghost use Rattle.layout.specs.Numbers.{payload};
-ghost use Rattle.layout.specs.TermReading.{refIn};
+ghost use Rattle.decoding.specs.TermReading.{refIn};
 ghost use Rattle.wellformed.specs.Kinds.{kindOf, allowed};
 ghost use Rattle.wellformed.specs.Words.{callIn, lone as isLone};
 use heap::EntityNo;

@@ -12,7 +12,7 @@ use lib.Bits.{bitOr, and-le-l, or-zero-r, or-add-and}
 use lib.Dec.{eqb}
 use lib.ListN.{length, take, drop, getD, set}
 use Rattle.layout.specs.Pack.{zeros}
-use Rattle.layout.specs.PackLaws.{length-zeros}
+use Rattle.layout_laws.specs.PackLaws.{length-zeros}
 use lib.Seq.{take-suc, drop-cons, take-take, getD-take, set-at, length-take-le, take-length, take-all}
 
 -- r tells whether the lists are equal

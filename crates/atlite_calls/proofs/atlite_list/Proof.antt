@@ -1,6 +1,6 @@
 -- `atlite_list` meets its contract. Assumes nothing.
 use borrow.Author.Needs.{needs}
-use Rattle.atlite_calls.specs.Numbers.{listLaws}
+use Rattle.atlite_calls.specs.NumberLaws.{listLaws}
 use Rattle.atlite_calls.proofs.atlite_list.Statement.{statement}
 use Rattle.atlite_calls.proofs.atlite_list.Tie as tie
 

@@ -1,6 +1,6 @@
 -- `atlite_load` meets its contract. Assumes nothing.
 use borrow.Author.Needs.{needs}
-use Rattle.atlite_calls.specs.Numbers.{loadLaws}
+use Rattle.atlite_calls.specs.NumberLaws.{loadLaws}
 use Rattle.atlite_calls.proofs.atlite_load.Statement.{statement}
 use Rattle.atlite_calls.proofs.atlite_load.Tie as tie
 

@@ -1,6 +1,6 @@
 -- `atlite_move` meets its contract. Assumes nothing.
 use borrow.Author.Needs.{needs}
-use Rattle.atlite_calls.specs.Numbers.{moveLaws}
+use Rattle.atlite_calls.specs.NumberLaws.{moveLaws}
 use Rattle.atlite_calls.proofs.atlite_move.Statement.{statement}
 use Rattle.atlite_calls.proofs.atlite_move.Tie as tie
 

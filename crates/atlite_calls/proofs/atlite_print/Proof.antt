@@ -1,6 +1,6 @@
 -- `atlite_print` meets its contract. Assumes nothing.
 use borrow.Author.Needs.{needs}
-use Rattle.atlite_calls.specs.Numbers.{printLaws}
+use Rattle.atlite_calls.specs.NumberLaws.{printLaws}
 use Rattle.atlite_calls.proofs.atlite_print.Statement.{statement}
 use Rattle.atlite_calls.proofs.atlite_print.Tie as tie
 

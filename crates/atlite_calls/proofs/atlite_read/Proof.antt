@@ -1,6 +1,6 @@
 -- `atlite_read` meets its contract. Assumes nothing.
 use borrow.Author.Needs.{needs}
-use Rattle.atlite_calls.specs.Numbers.{readLaws}
+use Rattle.atlite_calls.specs.NumberLaws.{readLaws}
 use Rattle.atlite_calls.proofs.atlite_read.Statement.{statement}
 use Rattle.atlite_calls.proofs.atlite_read.Tie as tie
 

@@ -1,6 +1,6 @@
 -- `atlite_run` meets its contract. Assumes nothing.
 use borrow.Author.Needs.{needs}
-use Rattle.atlite_calls.specs.Numbers.{runLaws}
+use Rattle.atlite_calls.specs.NumberLaws.{runLaws}
 use Rattle.atlite_calls.proofs.atlite_run.Statement.{statement}
 use Rattle.atlite_calls.proofs.atlite_run.Tie as tie
 

@@ -1,6 +1,6 @@
 -- `state::list` meets its contract, which is what `list_text` ensures, written out. Assumes nothing.
 use borrow.Author.Needs.{needs}
-use Rattle.state.specs.ListCall.{ListsCall}
+use Rattle.promises.specs.Meaning.{ListsCall}
 use Rattle.state.proofs.list.Statement.{statement}
 use Rattle.state.proofs.list.Tie as tie
 

@@ -73,8 +73,8 @@ use Rattle.parse.proofs.headers.method_head.Reads as method-head-reads
 use Rattle.parse.proofs.scratch.put.Reads as put-reads
 use Rattle.parse.proofs.names.spaced_word.Reads as spaced-word-reads
 use Rattle.parse.proofs.names.word_at.Reads as word-at-reads
-use Rattle.layout.proofs.kinds.operator.Reads as operator-reads
-use Rattle.layout.proofs.kinds.operands.Reads as operands-reads
+use Rattle.kinds.proofs.operator.Reads as operator-reads
+use Rattle.kinds.proofs.operands.Reads as operands-reads
 use Rattle.scan.proofs.keyword.Reads as keyword-reads
 use Rattle.scan.proofs.run_end.Reads as run-end-reads
 use Rattle.scan.proofs.starts.Reads as starts-reads

@@ -1,6 +1,6 @@
 -- `heads::name_after` meets its contract, by the laws of `HeadLaws`. Assumes nothing.
 use borrow.Author.Needs.{needs}
-use Rattle.layout.specs.Kinds.{Kinds}
+use Rattle.decoding.specs.Kinds.{Kinds}
 use Rattle.showing.specs.TextOfWords.{afterIn}
 use Rattle.showing.specs.HeadLaws.{names}
 use Rattle.showing.proofs.heads.name_after.Statement.{statement}

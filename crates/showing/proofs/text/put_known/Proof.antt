@@ -1,7 +1,7 @@
 -- `text::put_known` meets its contract, by the laws of `PutLaws`. Assumes nothing.
 use borrow.Author.Needs.{needs}
 use Rattle.atlite.specs.Base.{bytes}
-use Rattle.layout.specs.Kinds.{Words}
+use Rattle.decoding.specs.Kinds.{Words}
 use Rattle.showing.specs.TextOfWords.{knownIn}
 use Rattle.showing.specs.PutLaws.{knowns}
 use Rattle.showing.proofs.text.put_known.Statement.{statement}
