@@ -1,24 +1,26 @@
-// Expressions by their operator, each form from its parts. Forms hold expressions: these functions and those of the modules below call
-// each other in a cycle, which has one proof.
+// Expressions by their operator, each form from its parts, and messages with their arguments. Forms hold expressions: these functions and
+// those of the module below call each other in a cycle, which has one proof. The files of that proof are named after all functions of the
+// cycle, and a name of over 255 bytes cannot be kept: then every crate above would prove the cycle again.
 ghost use mathlib.Core.Path.{_≡_};
-ghost use Prim.Native.Nat.{_+_, _<_};
+ghost use Prim.Native.Nat.{_+_, _≤_, _<_};
 ghost use lib.ListN.{length};
-ghost use Rattle.words.specs.Wide.{wideSrc};
+ghost use Rattle.atlite.specs.Script.{countSrcs};
+ghost use Rattle.words.specs.Wide.{wideSrc, wideSrcs};
 ghost use Rattle.parse.specs.Atoms.{Ready};
-ghost use Rattle.parse.specs.DescentContract.{Place, Follow, Reads, exprs, spaceds, ones, oneWords, mids, midWords, brackets, forms};
+ghost use Rattle.parse.specs.DescentContract.{Place, Follow, Argued, Reads, Lists, exprs, spaceds, ones, oneWords, mids, midWords, brackets, forms, sends, sendWords, argsFrom};
 
 mod literals;
-mod messages;
 
 use crate::atoms::atom;
 use crate::forms::literals::literal;
-use crate::forms::messages::message;
 use crate::names::Name;
 use crate::names::spaced_word;
+use crate::scratch::Listed;
 use crate::scratch::Step;
 use crate::scratch::close;
 use crate::scratch::head;
 use crate::scratch::head2;
+use crate::scratch::put;
 
 // An expression.
 pub fn expr(
@@ -249,5 +251,82 @@ fn func(
     match x {
         Name::Word(y, i) => one(text, i, low, high, count, out, o, head(65, y)),
         Name::NoWord => Step::Bad,
+    }
+}
+
+// Of a call, a send or an ask: who is asked, the name of the message, and its arguments.
+fn message(
+    text: &[u8],
+    at: usize,
+    low: &[u64],
+    high: &[u32],
+    count: usize,
+    out: &mut [u64],
+    o: usize,
+    k: u8,
+) -> Step
+    requires { ⌜ Ready (now text) (now low) (now high) count × Place (now text) at (o + 1) × (length (now out) ≡ 4096) ⌝ }
+    ensures { λ r. ⌜ Reads (sendWords k) (sends (now (text .entry))) (now (text .entry)) at o (now (out .entry)) (now (out .exit)) r ⌝ }
+{
+    let a = spaced(text, at, low, high, count, out, o + 1);
+    match a {
+        Step::Done(i, p) => {
+            let x = spaced_word(text, i, low, high, count);
+            match x {
+                Name::Word(m, j) => arguments(text, j, low, high, count, out, o, p, k, m),
+                Name::NoWord => Step::Bad,
+            }
+        }
+        Step::Bad => Step::Bad,
+    }
+}
+
+// The arguments of the message `m`, with their words at `p` and the head word's place at `o`.
+fn arguments(
+    text: &[u8],
+    at: usize,
+    low: &[u64],
+    high: &[u32],
+    count: usize,
+    out: &mut [u64],
+    o: usize,
+    p: usize,
+    k: u8,
+    m: usize,
+) -> Step
+    requires { ⌜ Ready (now text) (now low) (now high) count × Place (now text) at p × (length (now out) ≡ 4096) × (o < 4096) × (m < 4096) ⌝ }
+    ensures { λ r. ⌜ Argued k m (now (text .entry)) at p (now (out .entry)) o (now (out .exit)) r ⌝ }
+{
+    let b = args(text, at, low, high, count, out, p, 0);
+    match b {
+        Listed::Items(l, q, c) => put(out, o, head2(k, m, c), l, q),
+        Listed::NoItems => Step::Bad,
+    }
+}
+
+// Arguments to the closing bracket, with `b` before them and at most three in all.
+fn args(
+    text: &[u8],
+    at: usize,
+    low: &[u64],
+    high: &[u32],
+    count: usize,
+    out: &mut [u64],
+    o: usize,
+    b: usize,
+) -> Listed
+    requires { ⌜ Ready (now text) (now low) (now high) count × Place (now text) at o × (length (now out) ≡ 4096) × (b ≤ 3) ⌝ }
+    ensures { λ r. ⌜ Lists wideSrcs countSrcs 3 b (argsFrom b (now (text .entry))) (now (text .entry)) at o (now (out .entry)) (now (out .exit)) r ⌝ }
+{
+    if scan::starts(text, at, b")") {
+        return Listed::Items(at + 1, o, b);
+    }
+    if b == 3 {
+        return Listed::NoItems;
+    }
+    let a = spaced(text, at, low, high, count, out, o);
+    match a {
+        Step::Done(i, p) => args(text, i, low, high, count, out, p, b + 1),
+        Step::Bad => Listed::NoItems,
     }
 }

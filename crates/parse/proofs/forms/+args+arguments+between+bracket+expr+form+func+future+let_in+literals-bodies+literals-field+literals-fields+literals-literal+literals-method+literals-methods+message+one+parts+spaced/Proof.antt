@@ -9,61 +9,61 @@ use borrow.Fn.Kinds.{In}
 use borrow.Fn.PlainCycle.{Measures, is, falls, and}
 use Rattle.parse.proofs.forms.between.Reads as between
 use Rattle.parse.proofs.forms.between.Kinds as between-kinds
-use Rattle.parse.proofs.forms.+between+bracket+expr+form+func+future+let_in+literals-bodies+literals-field+literals-fields+literals-literal+literals-method+literals-methods+messages-args+messages-arguments+messages-message+one+parts+spaced.Lts-between as between-lts
+use Rattle.parse.proofs.forms.+args+arguments+between+bracket+expr+form+func+future+let_in+literals-bodies+literals-field+literals-fields+literals-literal+literals-method+literals-methods+message+one+parts+spaced.Lts-between as between-lts
 use Rattle.parse.proofs.forms.bracket.Reads as bracket
 use Rattle.parse.proofs.forms.bracket.Kinds as bracket-kinds
-use Rattle.parse.proofs.forms.+between+bracket+expr+form+func+future+let_in+literals-bodies+literals-field+literals-fields+literals-literal+literals-method+literals-methods+messages-args+messages-arguments+messages-message+one+parts+spaced.Lts-bracket as bracket-lts
+use Rattle.parse.proofs.forms.+args+arguments+between+bracket+expr+form+func+future+let_in+literals-bodies+literals-field+literals-fields+literals-literal+literals-method+literals-methods+message+one+parts+spaced.Lts-bracket as bracket-lts
 use Rattle.parse.proofs.forms.expr.Reads as expr
 use Rattle.parse.proofs.forms.expr.Kinds as expr-kinds
-use Rattle.parse.proofs.forms.+between+bracket+expr+form+func+future+let_in+literals-bodies+literals-field+literals-fields+literals-literal+literals-method+literals-methods+messages-args+messages-arguments+messages-message+one+parts+spaced.Lts-expr as expr-lts
+use Rattle.parse.proofs.forms.+args+arguments+between+bracket+expr+form+func+future+let_in+literals-bodies+literals-field+literals-fields+literals-literal+literals-method+literals-methods+message+one+parts+spaced.Lts-expr as expr-lts
 use Rattle.parse.proofs.forms.form.Reads as form
 use Rattle.parse.proofs.forms.form.Kinds as form-kinds
-use Rattle.parse.proofs.forms.+between+bracket+expr+form+func+future+let_in+literals-bodies+literals-field+literals-fields+literals-literal+literals-method+literals-methods+messages-args+messages-arguments+messages-message+one+parts+spaced.Lts-form as form-lts
+use Rattle.parse.proofs.forms.+args+arguments+between+bracket+expr+form+func+future+let_in+literals-bodies+literals-field+literals-fields+literals-literal+literals-method+literals-methods+message+one+parts+spaced.Lts-form as form-lts
 use Rattle.parse.proofs.forms.func.Reads as func
 use Rattle.parse.proofs.forms.func.Kinds as func-kinds
-use Rattle.parse.proofs.forms.+between+bracket+expr+form+func+future+let_in+literals-bodies+literals-field+literals-fields+literals-literal+literals-method+literals-methods+messages-args+messages-arguments+messages-message+one+parts+spaced.Lts-func as func-lts
+use Rattle.parse.proofs.forms.+args+arguments+between+bracket+expr+form+func+future+let_in+literals-bodies+literals-field+literals-fields+literals-literal+literals-method+literals-methods+message+one+parts+spaced.Lts-func as func-lts
 use Rattle.parse.proofs.forms.future.Reads as future
 use Rattle.parse.proofs.forms.future.Kinds as future-kinds
-use Rattle.parse.proofs.forms.+between+bracket+expr+form+func+future+let_in+literals-bodies+literals-field+literals-fields+literals-literal+literals-method+literals-methods+messages-args+messages-arguments+messages-message+one+parts+spaced.Lts-future as future-lts
+use Rattle.parse.proofs.forms.+args+arguments+between+bracket+expr+form+func+future+let_in+literals-bodies+literals-field+literals-fields+literals-literal+literals-method+literals-methods+message+one+parts+spaced.Lts-future as future-lts
 use Rattle.parse.proofs.forms.let_in.Reads as let-in
 use Rattle.parse.proofs.forms.let_in.Kinds as let-in-kinds
-use Rattle.parse.proofs.forms.+between+bracket+expr+form+func+future+let_in+literals-bodies+literals-field+literals-fields+literals-literal+literals-method+literals-methods+messages-args+messages-arguments+messages-message+one+parts+spaced.Lts-let_in as let-in-lts
+use Rattle.parse.proofs.forms.+args+arguments+between+bracket+expr+form+func+future+let_in+literals-bodies+literals-field+literals-fields+literals-literal+literals-method+literals-methods+message+one+parts+spaced.Lts-let_in as let-in-lts
 use Rattle.parse.proofs.forms.literals.bodies.Reads as bodies
 use Rattle.parse.proofs.forms.literals.bodies.Kinds as bodies-kinds
-use Rattle.parse.proofs.forms.+between+bracket+expr+form+func+future+let_in+literals-bodies+literals-field+literals-fields+literals-literal+literals-method+literals-methods+messages-args+messages-arguments+messages-message+one+parts+spaced.Lts-literals-bodies as bodies-lts
+use Rattle.parse.proofs.forms.+args+arguments+between+bracket+expr+form+func+future+let_in+literals-bodies+literals-field+literals-fields+literals-literal+literals-method+literals-methods+message+one+parts+spaced.Lts-literals-bodies as bodies-lts
 use Rattle.parse.proofs.forms.literals.field.Reads as field
 use Rattle.parse.proofs.forms.literals.field.Kinds as field-kinds
-use Rattle.parse.proofs.forms.+between+bracket+expr+form+func+future+let_in+literals-bodies+literals-field+literals-fields+literals-literal+literals-method+literals-methods+messages-args+messages-arguments+messages-message+one+parts+spaced.Lts-literals-field as field-lts
+use Rattle.parse.proofs.forms.+args+arguments+between+bracket+expr+form+func+future+let_in+literals-bodies+literals-field+literals-fields+literals-literal+literals-method+literals-methods+message+one+parts+spaced.Lts-literals-field as field-lts
 use Rattle.parse.proofs.forms.literals.fields.Reads as fields
 use Rattle.parse.proofs.forms.literals.fields.Kinds as fields-kinds
-use Rattle.parse.proofs.forms.+between+bracket+expr+form+func+future+let_in+literals-bodies+literals-field+literals-fields+literals-literal+literals-method+literals-methods+messages-args+messages-arguments+messages-message+one+parts+spaced.Lts-literals-fields as fields-lts
+use Rattle.parse.proofs.forms.+args+arguments+between+bracket+expr+form+func+future+let_in+literals-bodies+literals-field+literals-fields+literals-literal+literals-method+literals-methods+message+one+parts+spaced.Lts-literals-fields as fields-lts
 use Rattle.parse.proofs.forms.literals.literal.Reads as literal
 use Rattle.parse.proofs.forms.literals.literal.Kinds as literal-kinds
-use Rattle.parse.proofs.forms.+between+bracket+expr+form+func+future+let_in+literals-bodies+literals-field+literals-fields+literals-literal+literals-method+literals-methods+messages-args+messages-arguments+messages-message+one+parts+spaced.Lts-literals-literal as literal-lts
+use Rattle.parse.proofs.forms.+args+arguments+between+bracket+expr+form+func+future+let_in+literals-bodies+literals-field+literals-fields+literals-literal+literals-method+literals-methods+message+one+parts+spaced.Lts-literals-literal as literal-lts
 use Rattle.parse.proofs.forms.literals.method.Reads as method
 use Rattle.parse.proofs.forms.literals.method.Kinds as method-kinds
-use Rattle.parse.proofs.forms.+between+bracket+expr+form+func+future+let_in+literals-bodies+literals-field+literals-fields+literals-literal+literals-method+literals-methods+messages-args+messages-arguments+messages-message+one+parts+spaced.Lts-literals-method as method-lts
+use Rattle.parse.proofs.forms.+args+arguments+between+bracket+expr+form+func+future+let_in+literals-bodies+literals-field+literals-fields+literals-literal+literals-method+literals-methods+message+one+parts+spaced.Lts-literals-method as method-lts
 use Rattle.parse.proofs.forms.literals.methods.Reads as methods
 use Rattle.parse.proofs.forms.literals.methods.Kinds as methods-kinds
-use Rattle.parse.proofs.forms.+between+bracket+expr+form+func+future+let_in+literals-bodies+literals-field+literals-fields+literals-literal+literals-method+literals-methods+messages-args+messages-arguments+messages-message+one+parts+spaced.Lts-literals-methods as methods-lts
-use Rattle.parse.proofs.forms.messages.args.Reads as args
-use Rattle.parse.proofs.forms.messages.args.Kinds as args-kinds
-use Rattle.parse.proofs.forms.+between+bracket+expr+form+func+future+let_in+literals-bodies+literals-field+literals-fields+literals-literal+literals-method+literals-methods+messages-args+messages-arguments+messages-message+one+parts+spaced.Lts-messages-args as args-lts
-use Rattle.parse.proofs.forms.messages.arguments.Reads as arguments
-use Rattle.parse.proofs.forms.messages.arguments.Kinds as arguments-kinds
-use Rattle.parse.proofs.forms.+between+bracket+expr+form+func+future+let_in+literals-bodies+literals-field+literals-fields+literals-literal+literals-method+literals-methods+messages-args+messages-arguments+messages-message+one+parts+spaced.Lts-messages-arguments as arguments-lts
-use Rattle.parse.proofs.forms.messages.message.Reads as message
-use Rattle.parse.proofs.forms.messages.message.Kinds as message-kinds
-use Rattle.parse.proofs.forms.+between+bracket+expr+form+func+future+let_in+literals-bodies+literals-field+literals-fields+literals-literal+literals-method+literals-methods+messages-args+messages-arguments+messages-message+one+parts+spaced.Lts-messages-message as message-lts
+use Rattle.parse.proofs.forms.+args+arguments+between+bracket+expr+form+func+future+let_in+literals-bodies+literals-field+literals-fields+literals-literal+literals-method+literals-methods+message+one+parts+spaced.Lts-literals-methods as methods-lts
+use Rattle.parse.proofs.forms.args.Reads as args
+use Rattle.parse.proofs.forms.args.Kinds as args-kinds
+use Rattle.parse.proofs.forms.+args+arguments+between+bracket+expr+form+func+future+let_in+literals-bodies+literals-field+literals-fields+literals-literal+literals-method+literals-methods+message+one+parts+spaced.Lts-args as args-lts
+use Rattle.parse.proofs.forms.arguments.Reads as arguments
+use Rattle.parse.proofs.forms.arguments.Kinds as arguments-kinds
+use Rattle.parse.proofs.forms.+args+arguments+between+bracket+expr+form+func+future+let_in+literals-bodies+literals-field+literals-fields+literals-literal+literals-method+literals-methods+message+one+parts+spaced.Lts-arguments as arguments-lts
+use Rattle.parse.proofs.forms.message.Reads as message
+use Rattle.parse.proofs.forms.message.Kinds as message-kinds
+use Rattle.parse.proofs.forms.+args+arguments+between+bracket+expr+form+func+future+let_in+literals-bodies+literals-field+literals-fields+literals-literal+literals-method+literals-methods+message+one+parts+spaced.Lts-message as message-lts
 use Rattle.parse.proofs.forms.one.Reads as one
 use Rattle.parse.proofs.forms.one.Kinds as one-kinds
-use Rattle.parse.proofs.forms.+between+bracket+expr+form+func+future+let_in+literals-bodies+literals-field+literals-fields+literals-literal+literals-method+literals-methods+messages-args+messages-arguments+messages-message+one+parts+spaced.Lts-one as one-lts
+use Rattle.parse.proofs.forms.+args+arguments+between+bracket+expr+form+func+future+let_in+literals-bodies+literals-field+literals-fields+literals-literal+literals-method+literals-methods+message+one+parts+spaced.Lts-one as one-lts
 use Rattle.parse.proofs.forms.parts.Reads as parts
 use Rattle.parse.proofs.forms.parts.Kinds as parts-kinds
-use Rattle.parse.proofs.forms.+between+bracket+expr+form+func+future+let_in+literals-bodies+literals-field+literals-fields+literals-literal+literals-method+literals-methods+messages-args+messages-arguments+messages-message+one+parts+spaced.Lts-parts as parts-lts
+use Rattle.parse.proofs.forms.+args+arguments+between+bracket+expr+form+func+future+let_in+literals-bodies+literals-field+literals-fields+literals-literal+literals-method+literals-methods+message+one+parts+spaced.Lts-parts as parts-lts
 use Rattle.parse.proofs.forms.spaced.Reads as spaced
 use Rattle.parse.proofs.forms.spaced.Kinds as spaced-kinds
-use Rattle.parse.proofs.forms.+between+bracket+expr+form+func+future+let_in+literals-bodies+literals-field+literals-fields+literals-literal+literals-method+literals-methods+messages-args+messages-arguments+messages-message+one+parts+spaced.Lts-spaced as spaced-lts
+use Rattle.parse.proofs.forms.+args+arguments+between+bracket+expr+form+func+future+let_in+literals-bodies+literals-field+literals-fields+literals-literal+literals-method+literals-methods+message+one+parts+spaced.Lts-spaced as spaced-lts
 use Rattle.parse.proofs.atoms.atom.Reads as atom-reads
 use Rattle.parse.proofs.scratch.close.Reads as close-reads
 use Rattle.parse.proofs.scratch.head.Reads as head-reads
@@ -78,10 +78,10 @@ use Rattle.kinds.proofs.operands.Reads as operands-reads
 use Rattle.scan.proofs.keyword.Reads as keyword-reads
 use Rattle.scan.proofs.run_end.Reads as run-end-reads
 use Rattle.scan.proofs.starts.Reads as starts-reads
-use Rattle.parse.proofs.forms.+between+bracket+expr+form+func+future+let_in+literals-bodies+literals-field+literals-fields+literals-literal+literals-method+literals-methods+messages-args+messages-arguments+messages-message+one+parts+spaced.{
+use Rattle.parse.proofs.forms.+args+arguments+between+bracket+expr+form+func+future+let_in+literals-bodies+literals-field+literals-fields+literals-literal+literals-method+literals-methods+message+one+parts+spaced.{
   statement,
 }
-use Rattle.parse.proofs.forms.+between+bracket+expr+form+func+future+let_in+literals-bodies+literals-field+literals-fields+literals-literal+literals-method+literals-methods+messages-args+messages-arguments+messages-message+one+parts+spaced.Tie.{
+use Rattle.parse.proofs.forms.+args+arguments+between+bracket+expr+form+func+future+let_in+literals-bodies+literals-field+literals-fields+literals-literal+literals-method+literals-methods+message+one+parts+spaced.Tie.{
   close,
 }
 
@@ -257,10 +257,12 @@ spaced-at t = and 4 spaced-kinds.ps (is 4 spaced-kinds.ps μ-spaced t) spaced.Pr
 abbrev spaced-below : ℕ → In 4 spaced-kinds.ps
 spaced-below t = and 4 spaced-kinds.ps (falls 4 spaced-kinds.ps _<_ μ-spaced t) spaced.Pre
 
-pub +between+bracket+expr+form+func+future+let-in+literals·bodies+literals·field+literals·fields+literals·literal+literals·method+literals·methods+messages·args+messages·arguments+messages·message+one+parts+spaced-spec :
+pub +args+arguments+between+bracket+expr+form+func+future+let-in+literals·bodies+literals·field+literals·fields+literals·literal+literals·method+literals·methods+message+one+parts+spaced-spec :
     {M : Type 1} → statement M
-+between+bracket+expr+form+func+future+let-in+literals·bodies+literals·field+literals·fields+literals·literal+literals·method+literals·methods+messages·args+messages·arguments+messages·message+one+parts+spaced-spec =
++args+arguments+between+bracket+expr+form+func+future+let-in+literals·bodies+literals·field+literals·fields+literals·literal+literals·method+literals·methods+message+one+parts+spaced-spec =
     close
+    μ-args
+    μ-arguments
     μ-between
     μ-bracket
     μ-expr
@@ -274,12 +276,55 @@ pub +between+bracket+expr+form+func+future+let-in+literals·bodies+literals·fie
     μ-literal
     μ-method
     μ-methods
-    μ-args
-    μ-arguments
     μ-message
     μ-one
     μ-parts
     μ-spaced
+    (λ t. args-lts.spec (
+      starts-reads.Asked,
+      starts-reads.Learnt,
+      spaced-below t,
+      spaced.Post,
+      args-below t,
+      args.Post,
+    )
+    (args-at t)
+    args.Post
+    (λ c. search args-misc)
+    (λ c κs. search args-misc)
+    (λ c. search args-misc)
+    (λ c. search args-back)
+    (λ c. search args-back)
+    (λ c κs. (search needs, (search args-place, search args-place, search needs)))
+    (λ c. search args-misc)
+    (λ c. search args-misc)
+    (λ c κs. (search args-fall, (search args-place, search args-place, search needs, search needs)))
+    (λ c. search args-misc)
+    (λ c. search args-misc)
+    (λ c. search args-back)
+    (λ c. search args-misc)
+    (λ c. search args-back)
+    )
+    (λ t. arguments-lts.spec (
+      args-below t,
+      args.Post,
+      head2-reads.Asked,
+      head2-reads.Learnt,
+      put-reads.Asked,
+      put-reads.Learnt,
+    )
+    (arguments-at t)
+    arguments.Post
+    (λ c κs. (search needs, (search arguments-place, search arguments-place, search needs, search needs)))
+    (λ c. search arguments-misc)
+    (λ c κs. (search arguments-misc, search arguments-misc))
+    (λ c κs. search needs)
+    (λ c. search arguments-misc)
+    (λ c. search arguments-misc)
+    (λ c. search arguments-back)
+    (λ c. search arguments-misc)
+    (λ c. search arguments-back)
+    )
     (λ t. between-lts.spec (
       spaced-below t,
       spaced.Post,
@@ -588,51 +633,6 @@ pub +between+bracket+expr+form+func+future+let-in+literals·bodies+literals·fie
     (λ c. search methods-misc)
     (λ c. search methods-back)
     (λ c. search methods-back)
-    )
-    (λ t. args-lts.spec (
-      starts-reads.Asked,
-      starts-reads.Learnt,
-      spaced-below t,
-      spaced.Post,
-      args-below t,
-      args.Post,
-    )
-    (args-at t)
-    args.Post
-    (λ c. search args-misc)
-    (λ c κs. search args-misc)
-    (λ c. search args-misc)
-    (λ c. search args-back)
-    (λ c. search args-back)
-    (λ c κs. (search needs, (search args-place, search args-place, search needs)))
-    (λ c. search args-misc)
-    (λ c. search args-misc)
-    (λ c κs. (search args-fall, (search args-place, search args-place, search needs, search needs)))
-    (λ c. search args-misc)
-    (λ c. search args-misc)
-    (λ c. search args-back)
-    (λ c. search args-misc)
-    (λ c. search args-back)
-    )
-    (λ t. arguments-lts.spec (
-      args-below t,
-      args.Post,
-      head2-reads.Asked,
-      head2-reads.Learnt,
-      put-reads.Asked,
-      put-reads.Learnt,
-    )
-    (arguments-at t)
-    arguments.Post
-    (λ c κs. (search needs, (search arguments-place, search arguments-place, search needs, search needs)))
-    (λ c. search arguments-misc)
-    (λ c κs. (search arguments-misc, search arguments-misc))
-    (λ c κs. search needs)
-    (λ c. search arguments-misc)
-    (λ c. search arguments-misc)
-    (λ c. search arguments-back)
-    (λ c. search arguments-misc)
-    (λ c. search arguments-back)
     )
     (λ t. message-lts.spec (
       spaced-below t,
