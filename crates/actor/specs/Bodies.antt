@@ -13,9 +13,9 @@ use Rattle.atlite_laws.specs.Facts.{and₂, both₂}
 use Rattle.invariant.specs.TermTests.{Is, wf-to, wf-from, methods-to, methods-from}
 use Rattle.layout_laws.specs.Parse.{got, parseMethods}
 use Rattle.layout_laws.specs.ParseLaws.{parse, parse-iff, methods-iff}
-use Rattle.wellformed.specs.Kinds.{allowed}
-use Rattle.wellformed.specs.Words.{holds}
-use Rattle.wellformed.specs.Ends.{endOf, methodsHold}
+use Rattle.term_words.specs.Kinds.{allowed}
+use Rattle.term_words.specs.Words.{holds}
+use Rattle.term_words.specs.Ends.{endOf, methodsHold}
 use Rattle.wellformed.specs.EndLaws.{ends-got, ends-at}
 use Rattle.actor.specs.Objects.{Judges}
 use Rattle.actor.specs.PartContract.{Ends}

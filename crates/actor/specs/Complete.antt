@@ -25,7 +25,7 @@ use Rattle.layout_laws.specs.StateFits.{WithinActor, within-to}
 use Rattle.layout_laws.specs.Arity.{nodesIn, nodes-append, term-nodes, bodies-nodes}
 use Rattle.layout_laws.specs.Parse.{zerosAt}
 use Rattle.layout_laws.specs.Spans.{Spans}
-use Rattle.wellformed.specs.Kinds.{allowed, futureBy}
+use Rattle.term_words.specs.Kinds.{allowed, futureBy}
 use Rattle.actor.specs.Tests.{madeEnd, copiedEnd, slotsEnd, countsHold, headHolds, exprHolds, inboxHolds, waitingHolds, madeReached, copiedReached, madeHolds, copiedHolds, bodiesHold, endHolds, heapHolds, restHolds, partHolds}
 use Rattle.actor.specs.Messages.{inbox-complete, waiting-complete}
 use Rattle.actor.specs.Objects.{Judges}

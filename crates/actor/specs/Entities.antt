@@ -23,9 +23,9 @@ use Rattle.layout_laws.specs.Parse.{valueAt, zerosAt}
 use Rattle.layout_laws.specs.ParseWords.{value-sound, value-read}
 use Rattle.layout_laws.specs.ParseMessages.{zeros-at, zeros-read}
 use Rattle.layout_laws.specs.Spans.{Spans, drop-next, drop-first, span-none, span-end, span-join}
-use Rattle.wellformed.specs.Kinds.{kindAt, kindOf, allowed, futureBy}
-use Rattle.wellformed.specs.Words.{within}
-use Rattle.wellformed.specs.WordLaws.{within-true}
+use Rattle.term_words.specs.Kinds.{kindAt, kindOf, allowed, futureBy}
+use Rattle.term_words.specs.Words.{within}
+use Rattle.term_words.specs.WordLaws.{within-true}
 use Rattle.actor.specs.Tests.{objectEnd, plainAt, openAt, settledAt, resolverAt, slotForms, madeEnd, copiedEnd}
 use Rattle.actor.specs.MessageTests.{some-within}
 use Rattle.actor.specs.Objects.{reached-by, head-number, span-is, Judges, Here, object-sound, object-complete}

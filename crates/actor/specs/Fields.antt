@@ -28,9 +28,9 @@ use Rattle.layout_laws.specs.Parse.{valuesAt, zerosAt}
 use Rattle.layout_laws.specs.ParseWords.{holding}
 use Rattle.layout_laws.specs.ParseMessages.{ValuesAt, values-at, zeros-at, values-read, zeros-read}
 use Rattle.layout_laws.specs.Spans.{Spans, drop-past, drop-next, drop-first, span-end, span-word, span-join}
-use Rattle.wellformed.specs.Kinds.{allowed}
-use Rattle.wellformed.specs.Words.{within}
-use Rattle.wellformed.specs.WordLaws.{within-true}
+use Rattle.term_words.specs.Kinds.{allowed}
+use Rattle.term_words.specs.Words.{within}
+use Rattle.term_words.specs.WordLaws.{within-true}
 use Rattle.actor.specs.Tests.{namesHold, fieldsAt}
 use Rattle.actor.specs.MessageTests.{some-within}
 

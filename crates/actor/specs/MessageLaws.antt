@@ -10,8 +10,8 @@ use lib.ListN.{getD}
 use Rattle.atlite.specs.Base.{all}
 use Rattle.layout.specs.Numbers.{payload, numberLimit, ownerUnit, digitLimit, messageSize, slotSize, madeAt}
 use Rattle.layout_laws.specs.Parse.{valueAt, valuesAt, zerosAt}
-use Rattle.wellformed.specs.Kinds.{allowed}
-use Rattle.wellformed.specs.Words.{within, holds, sendIn}
+use Rattle.term_words.specs.Kinds.{allowed}
+use Rattle.term_words.specs.Words.{within, holds, sendIn}
 use Rattle.actor.specs.Tests.{arguments, sentAt, arrivedAt, arrivalsAt, waitsAt, waitersAt}
 
 module _ (K : List ℕ) (a W : ℕ) (w : List ℕ) (at : ℕ) where

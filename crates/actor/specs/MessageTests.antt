@@ -21,9 +21,9 @@ use Rattle.layout_laws.specs.Parse.{got, valueAt, nameOf, valuesAt, zerosAt, pa
 use Rattle.layout_laws.specs.ParseWords.{Holding, holding}
 use Rattle.layout_laws.specs.ParseSound.{Ended, ended, ended-behind}
 use Rattle.layout_laws.specs.ParseMessages.{ended-sure, MessageAt, ValuesAt, values-at, message-sound, message-complete}
-use Rattle.wellformed.specs.Kinds.{allowed}
-use Rattle.wellformed.specs.Words.{within, sendIn}
-use Rattle.wellformed.specs.WordLaws.{within-true}
+use Rattle.term_words.specs.Kinds.{allowed}
+use Rattle.term_words.specs.Words.{within, sendIn}
+use Rattle.term_words.specs.WordLaws.{within-true}
 use Rattle.actor.specs.Tests.{low, arguments, sentAt}
 
 -- ---- what was read

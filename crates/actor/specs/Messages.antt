@@ -27,9 +27,9 @@ use Rattle.layout_laws.specs.Parse.{valueAt}
 use Rattle.layout_laws.specs.ParseWords.{value-sound, value-read}
 use Rattle.layout_laws.specs.ParseMessages.{MessageAt}
 use Rattle.layout_laws.specs.Spans.{Spans, drop-past, span-none, span-end, span-of, span-inside, span-join}
-use Rattle.wellformed.specs.Kinds.{allowed}
-use Rattle.wellformed.specs.Words.{within}
-use Rattle.wellformed.specs.WordLaws.{within-true}
+use Rattle.term_words.specs.Kinds.{allowed}
+use Rattle.term_words.specs.Words.{within}
+use Rattle.term_words.specs.WordLaws.{within-true}
 use Rattle.actor.specs.Tests.{sentAt, arrivedAt, arrivalsAt, waitsAt, waitersAt}
 use Rattle.actor.specs.MessageTests.{some-within, sent-sound, sent-complete}
 

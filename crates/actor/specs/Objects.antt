@@ -20,7 +20,7 @@ use Rattle.layout.specs.Layout.{slotHead, tagNumber, slot, entityMethods}
 use Rattle.layout_laws.specs.Slots.{EntityFits, tag-low, head-kind, head-fields}
 use Rattle.layout_laws.specs.ParseSound.{MethodsAt}
 use Rattle.layout_laws.specs.Spans.{Spans, drop-past, drop-next, drop-first, span-end, span-word, span-join}
-use Rattle.wellformed.specs.Kinds.{allowed, futureBy}
+use Rattle.term_words.specs.Kinds.{allowed, futureBy}
 use Rattle.actor.specs.Tests.{fieldsAt, objectEnd}
 use Rattle.actor.specs.Fields.{fieldWords, five-words, fields-sound, fields-complete}
 

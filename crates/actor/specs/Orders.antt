@@ -17,7 +17,7 @@ use Rattle.layout_laws.specs.PackLaws.{Each}
 use Rattle.layout.specs.Layout.{queue, queues}
 use Rattle.decoding.specs.Decode.{aim, aimOf}
 use Rattle.layout_laws.specs.Slots.{EntityFits, EntitiesFit, kindOfEntity}
-use Rattle.wellformed.specs.Kinds.{allowed, futureBy}
+use Rattle.term_words.specs.Kinds.{allowed, futureBy}
 use Rattle.actor.specs.Series.{EachFrom}
 use Rattle.actor.specs.Queues.{Sorted, Opens, WaitsThere}
 use Rattle.actor.specs.Messages.{Ordered}

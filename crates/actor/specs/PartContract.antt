@@ -11,7 +11,7 @@ use Rattle.layout.specs.Numbers.{exprSize}
 use Rattle.layout.specs.Layout.{encodeActor}
 use Rattle.layout_laws.specs.Parts.{ActorFits}
 use Rattle.layout_laws.specs.ParseSound.{TermAt}
-use Rattle.wellformed.specs.Kinds.{allowed, futureBy}
+use Rattle.term_words.specs.Kinds.{allowed, futureBy}
 
 -- r tells whether P holds
 unfoldable pub Decides : Type 0 → Bool → Type 0

@@ -16,8 +16,8 @@ use Rattle.layout.specs.Numbers.{ownerLimit, exprAt, exprSize, messageSize, que
 use Rattle.layout_laws.specs.Arity.{nodesIn}
 use Rattle.layout_laws.specs.Parse.{zerosAt}
 use Rattle.layout_laws.specs.ParseLaws.{parse}
-use Rattle.wellformed.specs.Kinds.{allowed}
-use Rattle.wellformed.specs.Ends.{endOf}
+use Rattle.term_words.specs.Kinds.{allowed}
+use Rattle.term_words.specs.Ends.{endOf}
 use Rattle.actor.specs.Tests.{arrivalsAt, waitersAt, madeEnd, copiedEnd, slotsEnd, countsHold, headHolds, exprHolds, madeHolds, copiedHolds, bodiesHold, endHolds, inboxHolds, waitingHolds, madeReached, copiedReached, heapHolds, restHolds, partHolds}
 use Rattle.actor.specs.Bodies.{methodsReach, exprReach, judges-objects, judges-isolates, ends-expression}
 use Rattle.actor.specs.PartContract.{Decides, IsPart}

@@ -15,9 +15,9 @@ use Rattle.atlite.specs.Term.{made, null, ref}
 use Rattle.layout.specs.Numbers.{payload, digitLimit, digitsLimit, slotUnit, slotSize, slotBody, slotCount, bodiesSize}
 use Rattle.decoding.specs.TermReading.{refIn}
 use Rattle.layout_laws.specs.Parse.{given, valueForms, valueIn, valueAt, valuesAt, zerosAt, parseMethods}
-use Rattle.wellformed.specs.Kinds.{kindAt, kindOf, allowed, futureBy}
-use Rattle.wellformed.specs.Words.{within, holds}
-use Rattle.wellformed.specs.Ends.{endOf, methodsHold}
+use Rattle.term_words.specs.Kinds.{kindAt, kindOf, allowed, futureBy}
+use Rattle.term_words.specs.Words.{within, holds}
+use Rattle.term_words.specs.Ends.{endOf, methodsHold}
 use Rattle.actor.specs.Tests.{namesHold, fieldsAt, objectEnd, endIf, plainAt, openAt, settledAt, resolverAt, slotForms, madeEnd, copiedEnd, slotsEnd}
 use Rattle.actor.specs.Bodies.{methodsReach}
 

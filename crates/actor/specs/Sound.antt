@@ -28,7 +28,7 @@ use Rattle.layout_laws.specs.StateFits.{isolate-waits, queues-count}
 use Rattle.layout_laws.specs.Arity.{nodesIn, nodes-append, term-nodes, bodies-nodes}
 use Rattle.layout_laws.specs.Parse.{zerosAt}
 use Rattle.layout_laws.specs.Spans.{Spans, span-join, span-end}
-use Rattle.wellformed.specs.Kinds.{allowed, futureBy}
+use Rattle.term_words.specs.Kinds.{allowed, futureBy}
 use Rattle.actor.specs.Tests.{arrivalsAt, waitersAt, madeEnd, copiedEnd, countsHold, headHolds, exprHolds, inboxHolds, waitingHolds, madeReached, copiedReached, madeHolds, copiedHolds, bodiesHold, endHolds, heapHolds, restHolds, partHolds}
 use Rattle.actor.specs.Messages.{InboxIs, inbox-sound, Ordered, WaitingIs, waiting-sound}
 use Rattle.actor.specs.Objects.{Judges}

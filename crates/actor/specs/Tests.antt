@@ -14,8 +14,8 @@ use Rattle.layout.specs.Numbers.{payload, nameLimit, tagLimit, numberLimit, own
 use Rattle.decoding.specs.Reading.{namesIn}
 use Rattle.layout_laws.specs.Arity.{nodesIn}
 use Rattle.layout_laws.specs.Parse.{valueAt, valuesAt, zerosAt}
-use Rattle.wellformed.specs.Kinds.{allowed, futureBy}
-use Rattle.wellformed.specs.Words.{within, sendIn}
+use Rattle.term_words.specs.Kinds.{allowed, futureBy}
+use Rattle.term_words.specs.Words.{within, sendIn}
 
 -- c names in seven bits each, none of them twice, and nothing behind them
 unfoldable pub namesHold : ℕ → ℕ → ℕ → Bool

@@ -20,8 +20,8 @@ use Rattle.decoding.specs.Reading.{namesIn}
 use Rattle.layout_laws.specs.Parse.{valueAt, before, valuesAt, zerosAt}
 use Rattle.layout_laws.specs.ParseMessages.{zeros-at, zeros-read}
 use Rattle.words.specs.Runs.{Same}
-use Rattle.wellformed.specs.Kinds.{allowed}
-use Rattle.wellformed.specs.Words.{within, holds}
+use Rattle.term_words.specs.Kinds.{allowed}
+use Rattle.term_words.specs.Words.{within, holds}
 use Rattle.actor.specs.Tests.{namesHold}
 
 -- ---- zeros

@@ -8,8 +8,8 @@ ghost use lib.ListN.{length, getD};
 ghost use Rattle.atlite.specs.Term.{made as seriesM, ref};
 ghost use Rattle.layout.specs.Numbers.{digitLimit, digitsLimit, slotSize, bodiesSize};
 ghost use Rattle.layout_laws.specs.Parse.{valueAt};
-ghost use Rattle.wellformed.specs.Kinds.{futureBy};
-ghost use Rattle.wellformed.specs.Words.{within};
+ghost use Rattle.term_words.specs.Kinds.{futureBy};
+ghost use Rattle.term_words.specs.Words.{within};
 ghost use Rattle.actor.specs.Tests.{fieldsAt, objectEnd, endIf, plainAt, openAt, settledAt, resolverAt, madeEnd, copiedEnd, slotsEnd};
 ghost use Rattle.actor.specs.Bodies.{methodsReach};
 use crate::values;
@@ -43,7 +43,7 @@ fn future(x: u32, kinds: &[u8; STATE_SLOTS]) -> bool
     if x / PAYLOAD != 3 {
         return false;
     }
-    is_future(wellformed::word::kind_of(x % PAYLOAD, kinds))
+    is_future(term_words::word::kind_of(x % PAYLOAD, kinds))
 }
 
 // Whether the entity `n` that the actor `a` made is a future.
@@ -54,7 +54,7 @@ fn own_future(n: u32, a: u32, kinds: &[u8; STATE_SLOTS]) -> bool
     if 32 <= n {
         return false;
     }
-    is_future(kinds[(wellformed::word::SLOTS * a + n) as usize])
+    is_future(kinds[(term_words::word::SLOTS * a + n) as usize])
 }
 
 // The `n` fields of the slot at `at`.

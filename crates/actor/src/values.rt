@@ -7,8 +7,8 @@ ghost use lib.ListN.{length};
 ghost use Rattle.atlite.specs.Base.{member, all};
 ghost use Rattle.decoding.specs.Reading.{namesIn};
 ghost use Rattle.layout_laws.specs.Parse.{valuesAt, zerosAt};
-ghost use Rattle.wellformed.specs.Kinds.{allowed};
-ghost use Rattle.wellformed.specs.Words.{within};
+ghost use Rattle.term_words.specs.Kinds.{allowed};
+ghost use Rattle.term_words.specs.Words.{within};
 ghost use Rattle.actor.specs.Tests.{namesHold};
 
 // Whether the `n` words at `at` are zeros.
@@ -60,7 +60,7 @@ pub fn names(x: u32, n: usize, words: u32) -> bool
         return x == 0;
     }
     let y = x % NAME_LIMIT;
-    if wellformed::word::is_name(y, words) {
+    if term_words::word::is_name(y, words) {
         if among(x / NAME_LIMIT, n - 1, y) {
             return false;
         }

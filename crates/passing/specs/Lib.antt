@@ -1,17 +1,10 @@
+-- what is appended to an inbox and to series c
 pub mod InboxAppend
-pub mod ReferenceMap
-pub mod ReferenceMapLaws
-pub mod IsolateArrival
 pub mod CopiedAppend
-pub mod IsolateWords
 pub mod Room
+-- the copies, and the message
 pub mod CopyLoop
 pub mod Delivery
-pub mod IsolateLookup
-pub mod MeetContract
-pub mod Worklist
-pub mod SearchLaws
-pub mod IsolateSearch
-pub mod Nodes
+-- what a sender knows
 pub mod SenderFacts
 pub mod DeliveryCounts

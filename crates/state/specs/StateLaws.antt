@@ -31,7 +31,7 @@ use Rattle.layout_laws.specs.StateFits.{state-fits}
 use Rattle.dictionary.specs.Entries.{entriesAt, entriesHold}
 use Rattle.dictionary.specs.EntryLaws.{entries-encoded, length-entries}
 use Rattle.actor.specs.PartContract.{IsPart}
-use Rattle.wellformed.specs.Kinds.{allowed, futureBy}
+use Rattle.term_words.specs.Kinds.{allowed, futureBy}
 use Rattle.entity_kinds.specs.Table.{rows, FewAll}
 use Rattle.entity_kinds.specs.KindLaws.{rowOf, parts-rows, parts-few, allowed-holdable, future-is}
 use Rattle.state.specs.Conditions.{Words, HeadHolds, PartsHold, kindsFor, Holds, AreState}

@@ -10,8 +10,8 @@ use Rattle.atlite.specs.Term.{Term, Terms, nil, Inits, noField, Methods, noMeth
 use Rattle.decoding.specs.Kinds.{Kinds}
 use Rattle.layout_laws.specs.Parse.{Got, none, got, onGot, pair, behind, headOf, headIn, headAt, fieldAt, methodAt, termsBy, initsBy, methodsBy, formed, parseTerms, parseInits, parseMethods}
 use Rattle.layout_laws.specs.ParseLaws.{parse, parse-step}
-use Rattle.wellformed.specs.Words.{within}
-use Rattle.wellformed.specs.Ends.{endOf}
+use Rattle.term_words.specs.Words.{within}
+use Rattle.term_words.specs.Ends.{endOf}
 
 -- ---- what an end says
 module _ {A : Type 0} (t : A → Bool) where

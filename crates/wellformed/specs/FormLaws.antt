@@ -22,11 +22,11 @@ use Rattle.layout_laws.specs.KindLaws.{bare-row, field-row, bare-found, field-f
 use Rattle.layout_laws.specs.Parse.{valueIn, valueAt, nameOf, noHead, unary, binary, many, only, valueHead, askHead, askIn, headOf, headIn, headAt, formed}
 use Rattle.layout_laws.specs.ParseLaws.{parse}
 use Rattle.checks.specs.Bound.{Swapped, Kept}
-use Rattle.wellformed.specs.Words.{within, sendIn, callIn}
-use Rattle.wellformed.specs.WordLaws.{name-past}
-use Rattle.wellformed.specs.Ends.{endOf, Scope, Sees, bound, Bound, Arguments, two, termsEnd, Leaf, Closed, Unlisted, Operands, Counted, TermEnds, FormEnds, LiteralEnds}
-use Rattle.wellformed.specs.ScopeLaws.{scope-bind, two-bound}
-use Rattle.wellformed.specs.NameLaws.{variable-below}
+use Rattle.term_words.specs.Words.{within, sendIn, callIn}
+use Rattle.term_words.specs.WordLaws.{name-past}
+use Rattle.term_words.specs.Ends.{endOf, Scope, Sees, bound, Bound, Arguments, two, termsEnd, Leaf, Closed, Unlisted, Operands, Counted, TermEnds, FormEnds, LiteralEnds}
+use Rattle.term_words.specs.ScopeLaws.{scope-bind, two-bound}
+use Rattle.term_words.specs.NameLaws.{variable-below}
 use Rattle.wellformed.specs.EndLaws.{ends-on, ends-pair, term-nowhere}
 use Rattle.wellformed.specs.ShapeLaws.{formEnd, only-none, only-some, leaf-ends, unary-none, binary-none, many-some, many-none, by-kind}
 

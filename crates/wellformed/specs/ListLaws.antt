@@ -18,9 +18,9 @@ use Rattle.layout_laws.specs.ParseWords.{holding, field-word}
 use Rattle.layout_laws.specs.ParseLaws.{parse, parse-step}
 use Rattle.layout_laws.specs.LastThree.{noted}
 use Rattle.checks.specs.Bound.{Kept}
-use Rattle.wellformed.specs.Ends.{endOf, Scope, bound, Met, fieldHead, sign, FieldHeader, methodHead, MethodHeader, fieldsWell, methodsWell, termsEnd, Leaf, Closed, Operands, TermEnds, Left, FieldsEnd, MethodsEnd, FormEnds}
-use Rattle.wellformed.specs.ScopeLaws.{method-bound}
-use Rattle.wellformed.specs.NameLaws.{signed-word, met-noted}
+use Rattle.term_words.specs.Ends.{endOf, Scope, bound, Met, fieldHead, sign, FieldHeader, methodHead, MethodHeader, fieldsWell, methodsWell, termsEnd, Leaf, Closed, Operands, TermEnds, Left, FieldsEnd, MethodsEnd, FormEnds}
+use Rattle.term_words.specs.ScopeLaws.{method-bound}
+use Rattle.term_words.specs.NameLaws.{signed-word, met-noted}
 use Rattle.wellformed.specs.EndLaws.{ends-pair, headed, headed-none, terms-nowhere, fields-nowhere, methods-nowhere, parse-past, fields-past, methods-past}
 use Rattle.wellformed.specs.ShapeLaws.{one-term}
 

@@ -23,11 +23,11 @@ use Rattle.checks.specs.Bound.{Swapped, Kept}
 use Rattle.layout_laws.specs.Fitting.{each-all, count-inits, count-methods}
 use Rattle.layout_laws.specs.Signatures.{signed, Below, signed-distinct}
 use Rattle.layout_laws.specs.LastThree.{distinctFrom, from-none}
-use Rattle.wellformed.specs.Kinds.{allowed}
-use Rattle.wellformed.specs.Words.{holds}
-use Rattle.wellformed.specs.Ends.{endOf, methodsHold, Scope, isNew, fieldHead, sign, methodHead, fieldsWell, methodsWell, TermEnds, FieldsEnd, MethodsEnd, LiteralEnds, Opens, Refers}
-use Rattle.wellformed.specs.ScopeLaws.{scope-none, scope-bind}
-use Rattle.wellformed.specs.NameLaws.{name-below, met-none}
+use Rattle.term_words.specs.Kinds.{allowed}
+use Rattle.term_words.specs.Words.{holds}
+use Rattle.term_words.specs.Ends.{endOf, methodsHold, Scope, isNew, fieldHead, sign, methodHead, fieldsWell, methodsWell, TermEnds, FieldsEnd, MethodsEnd, LiteralEnds, Opens, Refers}
+use Rattle.term_words.specs.ScopeLaws.{scope-none, scope-bind}
+use Rattle.term_words.specs.NameLaws.{name-below, met-none}
 use Rattle.wellformed.specs.EndLaws.{ends-same, ends-none, ends-pair, ends-pair-none, methods-nowhere}
 use Rattle.wellformed.specs.ShapeLaws.{only-none}
 use Rattle.wellformed.specs.ListLaws.{methods-none}

@@ -12,7 +12,7 @@ use Rattle.layout_laws.specs.Parse.{Got, none, got, pair, Head, leaf, unary, bi
 use Rattle.layout_laws.specs.ParseSound.{terms-sound}
 use Rattle.layout_laws.specs.ParseHeads.{head-kind}
 use Rattle.layout_laws.specs.ParseLaws.{parse}
-use Rattle.wellformed.specs.Ends.{endOf, termsEnd, wordEnd}
+use Rattle.term_words.specs.Ends.{endOf, termsEnd, wordEnd}
 use Rattle.wellformed.specs.EndLaws.{ends-on, ends-on-none, ends-pair-none}
 
 -- ---- one term as a list

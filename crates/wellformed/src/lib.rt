@@ -10,18 +10,16 @@ ghost use Rattle.decoding.specs.ValidTest.{wellFormed};
 ghost use Rattle.layout.specs.Numbers.{payload, bodiesSize};
 ghost use Rattle.layout_laws.specs.Parse.{valueAt, parseMethods};
 ghost use Rattle.layout_laws.specs.ParseLaws.{parse};
-ghost use Rattle.wellformed.specs.Kinds.{allowed};
-ghost use Rattle.wellformed.specs.Words.{holds, within, sendIn};
-ghost use Rattle.wellformed.specs.Ends.{endOf, methodsHold};
+ghost use Rattle.term_words.specs.Kinds.{allowed};
+ghost use Rattle.term_words.specs.Words.{holds, within, sendIn};
+ghost use Rattle.term_words.specs.Ends.{endOf, methodsHold};
 use crate::term::Context;
 use layout::NAME_LIMIT;
 use layout::PAYLOAD;
 use layout::STATE_SLOTS;
+use term_words::word;
 
-pub mod header;
-pub mod scopes;
 pub mod term;
-pub mod word;
 
 // The answer where no term is, or not one that may be held.
 pub const FAIL: usize = 4096;

@@ -3,12 +3,9 @@ ghost use Prim.Native.Nat.{_+_, _*_, _/_, _%_, _≤_, _<_};
 ghost use lib.ListN.{length};
 ghost use Rattle.layout.specs.Numbers.{payload, bodiesSize};
 ghost use Rattle.checks.specs.Bound.{Kept};
-ghost use Rattle.wellformed.specs.Words.{holds};
-ghost use Rattle.wellformed.specs.Ends.{bound, Leaf, Counted, Unlisted, Operands, Closed, TermEnds, FormEnds, LiteralEnds, FieldsEnd, MethodsEnd};
+ghost use Rattle.term_words.specs.Words.{holds};
+ghost use Rattle.term_words.specs.Ends.{bound, Leaf, Counted, Unlisted, Operands, Closed, TermEnds, FormEnds, LiteralEnds, FieldsEnd, MethodsEnd};
 use crate::FAIL;
-use crate::header;
-use crate::scopes;
-use crate::word;
 use layout::DIGIT;
 use layout::NAME_LIMIT;
 use layout::NO_NAME;
@@ -16,6 +13,9 @@ use layout::PAIR_LIMIT;
 use layout::PAYLOAD;
 use layout::STATE_SLOTS;
 use layout::TAGGED_LIMIT;
+use term_words::header;
+use term_words::scopes;
+use term_words::word;
 
 // What holds where a term stands: whose it is, how many words the state has, whether it may refer, and the level of its scope.
 pub struct Context {

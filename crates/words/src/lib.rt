@@ -1,7 +1,9 @@
 // Runs of words and bytes, compared and copied; `wide` has the numbers of the scratch form of a script.
-ghost use Prim.Native.Nat.{_≤_};
+ghost use mathlib.Core.Path.{_≡_};
+ghost use Prim.Native.Nat.{_+_, _≤_};
 ghost use lib.Dec.{eqb};
 ghost use lib.ListN.{length, take};
+ghost use lib.Seq.{sets};
 ghost use Rattle.layout.specs.Pack.{zeros};
 ghost use Rattle.words.specs.Runs.{Still, Same, Copied};
 
@@ -61,4 +63,25 @@ pub fn copy_bytes(from: &[u8], n: usize, to: &mut [u8])
         to[i] = from[i];
         i += 1;
     }
+}
+
+// Copies the words `from` over the words `old`, which are as many.
+fn copy_words(from: &[u32], old: &mut [u32])
+    requires { ⌜ length (now from) ≡ length (now old) ⌝ }
+    ensures { λ r. ⌜ now (old .exit) ≡ now (from .entry) ⌝ }
+{
+    let mut i = 0;
+    while i < from.len() {
+        old[i] = from[i];
+        i += 1;
+    }
+}
+
+// Writes the words `x` from `at` on.
+pub fn put_words(w: &mut [u32], at: usize, x: &[u32])
+    requires { ⌜ at + length (now x) ≤ length (now w) ⌝ }
+    ensures { λ r. ⌜ now (w .exit) ≡ sets (now (w .entry)) at (now (x .entry)) ⌝ }
+{
+    let end = at + x.len();
+    copy_words(x, &mut w[at..end]);
 }

@@ -1,5 +1,5 @@
 -- `message_name` meets its contract: one law for each tag. Assumes nothing.
-use Rattle.wellformed.specs.WordLaws.{message-laws}
+use Rattle.term_words.specs.WordLaws.{message-laws}
 use Rattle.wellformed.proofs.message_name.Statement.{statement}
 use Rattle.wellformed.proofs.message_name.Tie as tie
 

@@ -1,5 +1,5 @@
 -- `value` meets its contract: one law for each kind of word. Assumes nothing.
-use Rattle.wellformed.specs.WordLaws.{value-laws}
+use Rattle.term_words.specs.WordLaws.{value-laws}
 use Rattle.wellformed.proofs.value.Statement.{statement}
 use Rattle.wellformed.proofs.value.Tie as tie
 

@@ -7,7 +7,7 @@ use Rattle.actor.proofs.values.names.Reads as names
 use Rattle.actor.proofs.values.names.Kinds as names-kinds
 use Rattle.actor.proofs.values.+names.Lts-names as names-lts
 use Rattle.actor.proofs.values.among.Reads as among-reads
-use Rattle.wellformed.proofs.word.is_name.Reads as is-name-reads
+use Rattle.term_words.proofs.word.is_name.Reads as is-name-reads
 use Rattle.actor.proofs.values.+names.{statement}
 use Rattle.actor.proofs.values.+names.Tie.{close}
 

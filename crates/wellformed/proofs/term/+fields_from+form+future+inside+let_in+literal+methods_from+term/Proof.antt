@@ -2,12 +2,12 @@
 -- at one position a form stands above a literal, a literal above its lists, a list above its elements and a binder above its terms. The
 -- loop over a term keeps that what is left of it are so many terms further on. Assumes nothing.
 use Rattle.layout.specs.Numbers.{thirdPlace}
-use Rattle.wellformed.specs.Words.{holds}
-use Rattle.wellformed.specs.Ends.{Left}
+use Rattle.term_words.specs.Words.{holds}
+use Rattle.term_words.specs.Ends.{Left}
 use Rattle.wellformed.specs.FormLaws.{form-laws, binder-laws}
 use Rattle.wellformed.specs.ListLaws.{left-laws, fields-laws, methods-laws}
 use Rattle.wellformed.specs.LiteralLaws.{literal-laws}
-use Rattle.wellformed.specs.ScopeLaws.{kept-laws}
+use Rattle.term_words.specs.ScopeLaws.{kept-laws}
 use Rattle.checks.specs.Bound.{Kept}
 use lib.ListN.{length}
 use borrow.Author.Needs.{needs}
@@ -38,19 +38,19 @@ use Rattle.wellformed.proofs.term.+fields_from+form+future+inside+let_i
 use Rattle.wellformed.proofs.term.term.Reads as term
 use Rattle.wellformed.proofs.term.term.Kinds as term-kinds
 use Rattle.wellformed.proofs.term.+fields_from+form+future+inside+let_in+literal+methods_from+term.Lts-term as term-lts
-use Rattle.wellformed.proofs.header.are_two.Reads as are-two-reads
-use Rattle.wellformed.proofs.header.field_header.Reads as field-header-reads
-use Rattle.wellformed.proofs.header.is_small.Reads as is-small-reads
-use Rattle.wellformed.proofs.header.method_header.Reads as method-header-reads
-use Rattle.wellformed.proofs.header.noted.Reads as noted-reads
-use Rattle.wellformed.proofs.scopes.bind.Reads as bind-reads
-use Rattle.wellformed.proofs.scopes.opened.Reads as opened-reads
-use Rattle.wellformed.proofs.scopes.refers.Reads as refers-reads
-use Rattle.wellformed.proofs.scopes.swap.Reads as swap-reads
-use Rattle.wellformed.proofs.scopes.unbind.Reads as unbind-reads
+use Rattle.term_words.proofs.header.are_two.Reads as are-two-reads
+use Rattle.term_words.proofs.header.field_header.Reads as field-header-reads
+use Rattle.term_words.proofs.header.is_small.Reads as is-small-reads
+use Rattle.term_words.proofs.header.method_header.Reads as method-header-reads
+use Rattle.term_words.proofs.header.noted.Reads as noted-reads
+use Rattle.term_words.proofs.scopes.bind.Reads as bind-reads
+use Rattle.term_words.proofs.scopes.opened.Reads as opened-reads
+use Rattle.term_words.proofs.scopes.refers.Reads as refers-reads
+use Rattle.term_words.proofs.scopes.swap.Reads as swap-reads
+use Rattle.term_words.proofs.scopes.unbind.Reads as unbind-reads
 use Rattle.wellformed.proofs.term.leaf.Reads as leaf-reads
 use Rattle.wellformed.proofs.term.operands.Reads as operands-reads
-use Rattle.wellformed.proofs.word.is_variable.Reads as is-variable-reads
+use Rattle.term_words.proofs.word.is_variable.Reads as is-variable-reads
 use Rattle.wellformed.proofs.term.+fields_from+form+future+inside+let_in+literal+methods_from+term.{
   statement,
 }
