@@ -14,13 +14,13 @@ use Rattle.atlite.specs.Reader.{spaced, readItems, readExpr}
 use Rattle.layout_laws.specs.Writes.{sets-append}
 use Rattle.words.specs.Wide.{wide, pair, wideSrc, wideSrcs}
 use Rattle.scan.specs.Runs.{Starts}
-use Rattle.parse.specs.declared.scratch.Step.{Step}
-use Rattle.parse.specs.declared.scratch.Step.the-variants.{Done, Bad}
-use Rattle.parse.specs.declared.scratch.Listed.{Listed}
-use Rattle.parse.specs.declared.scratch.Listed.the-variants.{Items, NoItems}
-use Rattle.parse.specs.NameLaws.{eat-starts, eat-not, closes, open-still, starts-room}
-use Rattle.parse.specs.DescentContract.{Took, Reads, ListRead, TookList, Lists, spaceds, argsFrom, readArgs, TookPart, Argued}
-use Rattle.parse.specs.DescentLaws.{Spaced}
+use Rattle.lexemes.specs.declared.scratch.Step.{Step}
+use Rattle.lexemes.specs.declared.scratch.Step.the-variants.{Done, Bad}
+use Rattle.lexemes.specs.declared.scratch.Listed.{Listed}
+use Rattle.lexemes.specs.declared.scratch.Listed.the-variants.{Items, NoItems}
+use Rattle.lexemes.specs.NameLaws.{eat-starts, eat-not, closes, open-still, starts-room}
+use Rattle.lexemes.specs.DescentContract.{Took, Reads, ListRead, TookList, Lists, spaceds, argsFrom, readArgs, TookPart, Argued}
+use Rattle.lexemes.specs.DescentLaws.{Spaced}
 
 module _ (t : Bytes) (at o b : ℕ) (old new : List ℕ) (r : Bool) (s : Starts t at (41 ∷ []) r) where
   args-end : (n k : ℕ) → r ≡ true → readItems Srcs.nil Srcs.cons (readExpr operators n (dictionary t)) k (drop at t) ≡ done (Srcs.nil, drop (at + 1) t)

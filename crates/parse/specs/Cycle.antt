@@ -1,9 +1,9 @@
 -- The laws of the descent, a set for each function. Assumes nothing.
 use borrow.Author.Needs.{needs}
-use Rattle.parse.specs.Operators.{field-counts}
-use Rattle.parse.specs.NameLaws.{starts-room, name-small}
-use Rattle.parse.specs.Headers.{spaced-small, spaced-within}
-use Rattle.parse.specs.DescentLaws.{place-step, place-form, fall-step, fall-step-more, place-word, place-name, fall-word, fall-word-more, fall-name, fall₁, fall₂, fall₃, place-more, place-space, place-run, spaced-so, spaced-not, mid-word-bad, mid-first-bad, send-word-bad, send-first-bad, step-within, fall-open, fall-more}
+use Rattle.lexemes.specs.Operators.{field-counts}
+use Rattle.lexemes.specs.NameLaws.{starts-room, name-small}
+use Rattle.lexemes.specs.Headers.{spaced-small, spaced-within}
+use Rattle.lexemes.specs.DescentLaws.{place-step, place-form, fall-step, fall-step-more, place-word, place-name, fall-word, fall-word-more, fall-name, fall₁, fall₂, fall₃, place-more, place-space, place-run, spaced-so, spaced-not, mid-word-bad, mid-first-bad, send-word-bad, send-first-bad, step-within, fall-open, fall-more}
 use Rattle.parse.specs.PartLaws.{parts-none, parts-bad, parts-more, one-part, mid-part, send-part}
 use Rattle.parse.specs.ArgumentLaws.{args-close, args-full, args-bad, args-more, argued-done, argued-bad, args-small}
 use Rattle.parse.specs.FormLaws.{expr-open, expr-atom, bracket-form, form-bare, form-field, form-resolve, form-seq, form-when, form-call, form-message, form-ask, form-object, form-isolate, form-actor, form-own, let-bad, let-done, fn-bad, fn-done, future-bad, future-later-bad, future-done}

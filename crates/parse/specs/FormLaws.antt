@@ -21,15 +21,15 @@ use Rattle.layout.specs.Tables.{srcKind}
 use Rattle.decoding.specs.Kinds.{Words, kindIn, rowIn}
 use Rattle.words.specs.Wide.{wide, pair, widePayload, wideSrc, wideSrcs}
 use Rattle.scan.specs.Runs.{Run, Starts}
-use Rattle.parse.specs.declared.names.Name.{Name}
-use Rattle.parse.specs.declared.names.Name.the-variants.{Word, NoWord}
-use Rattle.parse.specs.declared.scratch.Step.{Step}
-use Rattle.parse.specs.declared.scratch.Step.the-variants.{Bad}
-use Rattle.parse.specs.Atoms.{SpacedName}
-use Rattle.parse.specs.Operators.{operatorOf, operator-kind, is-bare, is-naming, ownKinds, Unformed, no-operator}
-use Rattle.parse.specs.DescentContract.{Took, Reads, exprs, brackets, formBy, forms, readOne, ones, oneWords, Parts, readParts, parts, partWords, headWords, readMid, mids, midWords, Follow, readArgs, readSend, sends, sendWords, readLiteral, literals, literalWords}
-use Rattle.parse.specs.NameLaws.{starts-room, spaced-read, spaced-refused}
-use Rattle.parse.specs.DescentLaws.{shift, bind-assoc, under, took-under}
+use Rattle.lexemes.specs.declared.names.Name.{Name}
+use Rattle.lexemes.specs.declared.names.Name.the-variants.{Word, NoWord}
+use Rattle.lexemes.specs.declared.scratch.Step.{Step}
+use Rattle.lexemes.specs.declared.scratch.Step.the-variants.{Bad}
+use Rattle.lexemes.specs.Atoms.{SpacedName}
+use Rattle.lexemes.specs.Operators.{operatorOf, operator-kind, is-bare, is-naming, ownKinds, Unformed, no-operator}
+use Rattle.lexemes.specs.DescentContract.{Took, Reads, exprs, brackets, formBy, forms, readOne, ones, oneWords, Parts, readParts, parts, partWords, headWords, readMid, mids, midWords, Follow, readArgs, readSend, sends, sendWords, readLiteral, literals, literalWords}
+use Rattle.lexemes.specs.NameLaws.{starts-room, spaced-read, spaced-refused}
+use Rattle.lexemes.specs.DescentLaws.{shift, bind-assoc, under, took-under}
 use Rattle.parse.specs.PartLaws.{whole}
 
 -- ---- the first byte

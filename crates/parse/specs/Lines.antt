@@ -14,14 +14,14 @@ use Rattle.atlite.specs.Keywords.{operators}
 use Rattle.atlite.specs.Reader.{Reading, eat, readWord, readExpr, readDefinition, readLine}
 use Rattle.words.specs.Wide.{wide, wideSrc, wideLine}
 use Rattle.scan.specs.Runs.{Starts}
-use Rattle.parse.specs.declared.names.Name.{Name}
-use Rattle.parse.specs.declared.names.Name.the-variants.{Word, NoWord}
-use Rattle.parse.specs.declared.scratch.Step.{Step}
-use Rattle.parse.specs.declared.scratch.Step.the-variants.{Done, Bad}
-use Rattle.parse.specs.Atoms.{NameRead, Named, NameOf}
-use Rattle.parse.specs.NameLaws.{eat-starts, eat-not, starts-room, name-small}
-use Rattle.parse.specs.DescentContract.{Read, Took, Reads, exprs, readOne, ones, oneWords}
-use Rattle.parse.specs.DescentLaws.{bind-assoc, place-name, place-more, step-within, shift}
+use Rattle.lexemes.specs.declared.names.Name.{Name}
+use Rattle.lexemes.specs.declared.names.Name.the-variants.{Word, NoWord}
+use Rattle.lexemes.specs.declared.scratch.Step.{Step}
+use Rattle.lexemes.specs.declared.scratch.Step.the-variants.{Done, Bad}
+use Rattle.lexemes.specs.Atoms.{NameRead, Named, NameOf}
+use Rattle.lexemes.specs.NameLaws.{eat-starts, eat-not, starts-room, name-small}
+use Rattle.lexemes.specs.DescentContract.{Read, Took, Reads, exprs, readOne, ones, oneWords}
+use Rattle.lexemes.specs.DescentLaws.{bind-assoc, place-name, place-more, step-within, shift}
 
 pub record EndsAt (t : Bytes) (j q i p : ℕ) : Type 0 where
   pub is : eat 10 (drop j t) ≡ done (drop i t)

@@ -15,16 +15,16 @@ use Rattle.atlite.specs.Reader.{Reading, readWord, readFields, readMethods, rea
 use Rattle.layout.specs.Numbers.{fieldKind, digitLimit}
 use Rattle.words.specs.Wide.{wide, wideSrc, wideFields, wideMethods}
 use Rattle.scan.specs.Runs.{Starts}
-use Rattle.parse.specs.declared.names.Name.{Name}
-use Rattle.parse.specs.declared.names.Name.the-variants.{Word, NoWord}
-use Rattle.parse.specs.declared.scratch.Step.{Step}
-use Rattle.parse.specs.declared.scratch.Step.the-variants.{Done, Bad}
-use Rattle.parse.specs.declared.scratch.Listed.{Listed}
-use Rattle.parse.specs.declared.scratch.Listed.the-variants.{Items, NoItems}
-use Rattle.parse.specs.Atoms.{NameRead, Named, NameOf}
-use Rattle.parse.specs.DescentContract.{Place, Read, Took, Reads, Closed, ListRead, TookList, Lists, readOne, ones, oneWords, readLiteral, literals, literalWords, fieldsFrom, methodsFrom, fieldAt, readRest, TookEnd, Ended}
+use Rattle.lexemes.specs.declared.names.Name.{Name}
+use Rattle.lexemes.specs.declared.names.Name.the-variants.{Word, NoWord}
+use Rattle.lexemes.specs.declared.scratch.Step.{Step}
+use Rattle.lexemes.specs.declared.scratch.Step.the-variants.{Done, Bad}
+use Rattle.lexemes.specs.declared.scratch.Listed.{Listed}
+use Rattle.lexemes.specs.declared.scratch.Listed.the-variants.{Items, NoItems}
+use Rattle.lexemes.specs.Atoms.{NameRead, Named, NameOf}
+use Rattle.lexemes.specs.DescentContract.{Place, Read, Took, Reads, Closed, ListRead, TookList, Lists, readOne, ones, oneWords, readLiteral, literals, literalWords, fieldsFrom, methodsFrom, fieldAt, readRest, TookEnd, Ended}
 use Rattle.layout_laws.specs.Writes.{sets-append}
-use Rattle.parse.specs.DescentLaws.{bind-assoc, headed}
+use Rattle.lexemes.specs.DescentLaws.{bind-assoc, headed}
 
 -- ---- places
 module _ (A : Type 0) (enc : A → List ℕ) (num : A → ℕ) (most b : ℕ) (R : ℕ → Reading A) (t : Bytes) (at o : ℕ) (old new : List ℕ) (a : Listed)

@@ -13,15 +13,15 @@ use Rattle.atlite.specs.Keywords.{operators}
 use Rattle.atlite.specs.Reader.{readMethods, readExpr}
 use Rattle.words.specs.Wide.{wideSrc, wideMethods}
 use Rattle.scan.specs.Runs.{Starts}
-use Rattle.parse.specs.declared.headers.Header.{Header}
-use Rattle.parse.specs.declared.headers.Header.the-variants.{Head, NoHead}
-use Rattle.parse.specs.declared.scratch.Step.{Step}
-use Rattle.parse.specs.declared.scratch.Step.the-variants.{Done, Bad}
-use Rattle.parse.specs.declared.scratch.Listed.{Listed}
-use Rattle.parse.specs.declared.scratch.Listed.the-variants.{Items, NoItems}
-use Rattle.parse.specs.Headers.{HeadRead, TookHead, HeaderOf, readAll, readHeader}
-use Rattle.parse.specs.DescentLaws.{bind-assoc}
-use Rattle.parse.specs.DescentContract.{Place, Reads, ListRead, TookList, Lists, readOne, ones, oneWords, methodsFrom, methodAt}
+use Rattle.lexemes.specs.declared.headers.Header.{Header}
+use Rattle.lexemes.specs.declared.headers.Header.the-variants.{Head, NoHead}
+use Rattle.lexemes.specs.declared.scratch.Step.{Step}
+use Rattle.lexemes.specs.declared.scratch.Step.the-variants.{Done, Bad}
+use Rattle.lexemes.specs.declared.scratch.Listed.{Listed}
+use Rattle.lexemes.specs.declared.scratch.Listed.the-variants.{Items, NoItems}
+use Rattle.lexemes.specs.Headers.{HeadRead, TookHead, HeaderOf, readAll, readHeader}
+use Rattle.lexemes.specs.DescentLaws.{bind-assoc}
+use Rattle.lexemes.specs.DescentContract.{Place, Reads, ListRead, TookList, Lists, readOne, ones, oneWords, methodsFrom, methodAt}
 use Rattle.parse.specs.LiteralLaws.{no-item, behind, item-core, OneRead, value-bad, value}
 
 -- ---- methods

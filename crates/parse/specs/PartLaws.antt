@@ -10,15 +10,15 @@ use Rattle.atlite.specs.Script.{countSrcs}
 use Rattle.atlite.specs.Keywords.{operators}
 use Rattle.atlite.specs.Reader.{spaced, spacedWord, readExpr}
 use Rattle.words.specs.Wide.{wide, pair, wideSrc, wideSrcs}
-use Rattle.parse.specs.declared.names.Name.{Name}
-use Rattle.parse.specs.declared.names.Name.the-variants.{Word}
-use Rattle.parse.specs.declared.scratch.Step.{Step}
-use Rattle.parse.specs.declared.scratch.Step.the-variants.{Done, Bad}
-use Rattle.parse.specs.Atoms.{NameRead, SpacedName}
-use Rattle.parse.specs.DescentContract.{readArgs, Read, Took, Reads, Closed, TookPart, Follow, Argued, spaceds, Parts, readParts, parts, partWords, headWords, readOne, ones, oneWords, readMid, mids, midWords, readSend, sends, sendWords}
+use Rattle.lexemes.specs.declared.names.Name.{Name}
+use Rattle.lexemes.specs.declared.names.Name.the-variants.{Word}
+use Rattle.lexemes.specs.declared.scratch.Step.{Step}
+use Rattle.lexemes.specs.declared.scratch.Step.the-variants.{Done, Bad}
+use Rattle.lexemes.specs.Atoms.{NameRead, SpacedName}
+use Rattle.lexemes.specs.DescentContract.{readArgs, Read, Took, Reads, Closed, TookPart, Follow, Argued, spaceds, Parts, readParts, parts, partWords, headWords, readOne, ones, oneWords, readMid, mids, midWords, readSend, sends, sendWords}
 use Rattle.layout_laws.specs.Writes.{sets-append}
-use Rattle.parse.specs.NameLaws.{spaced-read}
-use Rattle.parse.specs.DescentLaws.{headed, bind-assoc, took-under}
+use Rattle.lexemes.specs.NameLaws.{spaced-read}
+use Rattle.lexemes.specs.DescentLaws.{headed, bind-assoc, took-under}
 
 -- ---- expressions to the closing bracket
 module _ (t : Bytes) (at p o w : ℕ) (old new : List ℕ) where

@@ -18,11 +18,11 @@ use Rattle.atlite_laws.specs.Facts.{Every, holds, every-done, given}
 use Rattle.layout.specs.Pack.{flat}
 use Rattle.words.specs.Wide.{wideLine, wideLines}
 use Rattle.scan.specs.Runs.{Starts}
-use Rattle.parse.specs.declared.scratch.Step.{Step}
-use Rattle.parse.specs.declared.scratch.Step.the-variants as step
+use Rattle.lexemes.specs.declared.scratch.Step.{Step}
+use Rattle.lexemes.specs.declared.scratch.Step.the-variants as step
 use Rattle.parse.specs.declared.Parsed.{Parsed}
 use Rattle.parse.specs.declared.Parsed.the-variants.{Done, Bad}
-use Rattle.parse.specs.DescentContract.{Place, Read, Took, Reads}
+use Rattle.lexemes.specs.DescentContract.{Place, Read, Took, Reads}
 use Rattle.layout_laws.specs.Writes.{sets-append}
 use Rattle.parse.specs.Lines.{lineOf}
 

@@ -6,21 +6,21 @@ ghost use Prim.Native.Nat.{_+_, _≤_, _<_};
 ghost use lib.ListN.{length};
 ghost use Rattle.atlite.specs.Script.{countSrcs};
 ghost use Rattle.words.specs.Wide.{wideSrc, wideSrcs};
-ghost use Rattle.parse.specs.Atoms.{Ready};
-ghost use Rattle.parse.specs.DescentContract.{Place, Follow, Argued, Reads, Lists, exprs, spaceds, ones, oneWords, mids, midWords, brackets, forms, sends, sendWords, argsFrom};
+ghost use Rattle.lexemes.specs.Atoms.{Ready};
+ghost use Rattle.lexemes.specs.DescentContract.{Place, Follow, Argued, Reads, Lists, exprs, spaceds, ones, oneWords, mids, midWords, brackets, forms, sends, sendWords, argsFrom};
 
 mod literals;
 
-use crate::atoms::atom;
 use crate::forms::literals::literal;
-use crate::names::Name;
-use crate::names::spaced_word;
-use crate::scratch::Listed;
-use crate::scratch::Step;
-use crate::scratch::close;
-use crate::scratch::head;
-use crate::scratch::head2;
-use crate::scratch::put;
+use lexemes::atoms::atom;
+use lexemes::names::Name;
+use lexemes::names::spaced_word;
+use lexemes::scratch::Listed;
+use lexemes::scratch::Step;
+use lexemes::scratch::close;
+use lexemes::scratch::head;
+use lexemes::scratch::head2;
+use lexemes::scratch::put;
 
 // An expression.
 pub fn expr(

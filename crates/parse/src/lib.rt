@@ -5,13 +5,8 @@ ghost use Rattle.atlite.specs.Lexicon.{dictionary};
 ghost use Rattle.scan.specs.WordNumbers.{Holds};
 ghost use Rattle.parse.specs.TextLaws.{Parses};
 
-mod atoms;
 mod forms;
-mod headers;
 mod lines;
-mod names;
-mod numbers;
-mod scratch;
 
 // What parsing answers: the words and lines of a script, or that its text is of no script.
 pub enum Parsed {

@@ -4,16 +4,16 @@ ghost use Prim.Native.Nat.{_+_, _≤_};
 ghost use lib.ListN.{length};
 ghost use Rattle.words.specs.Wide.{wideLine};
 ghost use Rattle.parse.specs.TextLaws.{Closing, Parses};
-ghost use Rattle.parse.specs.Atoms.{Ready};
+ghost use Rattle.lexemes.specs.Atoms.{Ready};
 ghost use Rattle.parse.specs.Lines.{LineEnd, definitions, sentences, lineOf};
-ghost use Rattle.parse.specs.DescentContract.{Place, Reads};
+ghost use Rattle.lexemes.specs.DescentContract.{Place, Reads};
 use crate::Parsed;
 use crate::forms::expr;
 use crate::forms::one;
-use crate::names::Name;
-use crate::names::word_at;
-use crate::scratch::Step;
-use crate::scratch::head;
+use lexemes::names::Name;
+use lexemes::names::word_at;
+use lexemes::scratch::Step;
+use lexemes::scratch::head;
 
 // The end of a line.
 fn newline(text: &[u8], at: usize, p: usize) -> Step

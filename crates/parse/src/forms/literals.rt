@@ -4,18 +4,18 @@ ghost use Prim.Native.Nat.{_+_, _≤_, _<_};
 ghost use lib.ListN.{length};
 ghost use Rattle.atlite.specs.Table.{countFields, countMethods};
 ghost use Rattle.words.specs.Wide.{wideFields, wideMethods};
-ghost use Rattle.parse.specs.Atoms.{Ready};
-ghost use Rattle.parse.specs.DescentContract.{Place, Ended, Reads, Lists, literals, literalWords, fieldsFrom, fieldAt, methodsFrom, methodAt};
+ghost use Rattle.lexemes.specs.Atoms.{Ready};
+ghost use Rattle.lexemes.specs.DescentContract.{Place, Ended, Reads, Lists, literals, literalWords, fieldsFrom, fieldAt, methodsFrom, methodAt};
 use crate::forms::one;
-use crate::headers::Header;
-use crate::headers::method_head;
-use crate::names::Name;
-use crate::names::word_at;
-use crate::scratch::Listed;
-use crate::scratch::Step;
-use crate::scratch::close;
-use crate::scratch::head;
-use crate::scratch::literal_head;
+use lexemes::headers::Header;
+use lexemes::headers::method_head;
+use lexemes::names::Name;
+use lexemes::names::word_at;
+use lexemes::scratch::Listed;
+use lexemes::scratch::Step;
+use lexemes::scratch::close;
+use lexemes::scratch::head;
+use lexemes::scratch::literal_head;
 
 // Fields and methods.
 pub fn literal(
