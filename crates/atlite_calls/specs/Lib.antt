@@ -1,5 +1,5 @@
 -- the numbers of the answers
-pub mod NumberLaws
+pub mod Numbers
 -- which numbers there are
 pub mod Causes
 pub mod Reading

@@ -1,6 +1,6 @@
 -- `atlite_load` meets its contract. Assumes nothing.
 use borrow.Author.Needs.{needs}
-use Rattle.atlite_calls.specs.NumberLaws.{loadLaws}
+use Rattle.atlite_calls.specs.Numbers.{laws}
 use Rattle.atlite_calls.proofs.atlite_load.Statement.{statement}
 use Rattle.atlite_calls.proofs.atlite_load.Tie as tie
 
@@ -9,11 +9,7 @@ atlite-load-spec =
     tie.close
     (tie.spec
     (λ c κs. search needs)  -- load-requires
-    (λ c. search needs)  -- enum-told
-    (λ c. search needs)  -- enum-known-n
-    (λ c. search needs)  -- cast-result
+    (λ c κs. search needs)  -- loaded-requires
     (λ c. search needs)  -- same-length
-    (λ c. search loadLaws)  -- returns
-    (λ c. search needs)  -- same-length-2
-    (λ c. search loadLaws)  -- returns-2
+    (λ c. search laws)  -- returns
     )

@@ -1,6 +1,6 @@
 -- `atlite_print` meets its contract. Assumes nothing.
 use borrow.Author.Needs.{needs}
-use Rattle.atlite_calls.specs.NumberLaws.{printLaws}
+use Rattle.atlite_calls.specs.Numbers.{laws}
 use Rattle.atlite_calls.proofs.atlite_print.Statement.{statement}
 use Rattle.atlite_calls.proofs.atlite_print.Tie as tie
 
@@ -9,11 +9,7 @@ atlite-print-spec =
     tie.close
     (tie.spec
     (λ c κs. search needs)  -- print-requires
-    (λ c. search needs)  -- enum-known-printed
-    (λ c. search needs)  -- enum-known-n
-    (λ c. search needs)  -- cast-result
+    (λ c κs. search needs)  -- printed-requires
     (λ c. search needs)  -- same-length
-    (λ c. search printLaws)  -- returns
-    (λ c. search needs)  -- same-length-2
-    (λ c. search printLaws)  -- returns-2
+    (λ c. search laws)  -- returns
     )

@@ -1,6 +1,6 @@
 -- `atlite_run` meets its contract. Assumes nothing.
 use borrow.Author.Needs.{needs}
-use Rattle.atlite_calls.specs.NumberLaws.{runLaws}
+use Rattle.atlite_calls.specs.Numbers.{laws}
 use Rattle.atlite_calls.proofs.atlite_run.Statement.{statement}
 use Rattle.atlite_calls.proofs.atlite_run.Tie as tie
 
@@ -9,11 +9,7 @@ atlite-run-spec =
     tie.close
     (tie.spec
     (λ c κs. search needs)  -- run-requires
-    (λ c. search needs)  -- enum-known-made
-    (λ c. search needs)  -- enum-known-n
-    (λ c. search needs)  -- cast-result
+    (λ c κs. search needs)  -- ran-requires
     (λ c. search needs)  -- same-length
-    (λ c. (search runLaws, (search runLaws, (search runLaws, search runLaws))))  -- returns
-    (λ c. search needs)  -- same-length-2
-    (λ c. (search runLaws, (search runLaws, (search runLaws, search runLaws))))  -- returns-2
+    (λ c. (search laws, (search laws, (search laws, search laws))))  -- returns
     )
