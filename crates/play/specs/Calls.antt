@@ -1,104 +1,29 @@
 -- `replay`: the calls, made one after another. The invariant of their loop: the words are those of the state that the calls so far leave,
 -- and the text is what they answered. Assumes nothing.
-use Prim.Native.Nat.{ℕ, zero, suc, _+_, _*_, _/_, _%_, _≤_, _<_}
+use Prim.Native.Nat.{ℕ, _+_, _*_, _≤_, _<_}
 use mathlib.Core.Path.{_≡_, refl, sym, ap, _∙_, subst as transp}
-use mathlib.Core.Bool.{Bool, true, false}
 use mathlib.Core.List.{List, [], _∷_, _++_, append-assoc}
 use native.Mathlib.Omega.{arith}
 use native.Mathlib.Numerals.{add-one}
 use borrow.Author.Needs.{needs}
-use borrow.Author.Tests.{lt-ltb}
 use lib.ListN.{length, take, drop, getD, length-append}
 use lib.Seq.{sets-eq, length-sets, take-at, take-suc, take-all, length-take-le}
-use lib.Dec.{ltb}
-use Rattle.atlite.specs.Base.{Result, done, refused, _>>=_, bytes}
+use Rattle.atlite.specs.Base.{Result, done, refused, _>>=_}
 use Rattle.atlite.specs.Lexicon.{Bytes}
-use Rattle.atlite.specs.Move.{Answer, AfterMove, move}
-use Rattle.atlite.specs.Printer.{digits, printNumber, printItems}
+use Rattle.atlite.specs.Move.{AfterMove, move}
+use Rattle.atlite.specs.Printer.{printNumber, printItems}
 use Rattle.atlite.specs.Replay.{answerText, Replayed, afterCall, callFrom, called}
 use Rattle.atlite.specs.Answers.{moveAnswer}
-use Rattle.atlite.specs.declared.ActorNo.{ActorNo}
-use Rattle.atlite.specs.declared.Moved.{Moved as Answers}
-use Rattle.atlite.specs.declared.Moved.the-variants as M
+use Rattle.atlite.specs.declared.Moved.{Moved}
 use Rattle.invariant.specs.Moves.{move-keeps}
 use Rattle.layout.specs.Layout.{encode}
 use Rattle.promises.specs.Meaning.{answered, lent, moveCall}
 use Rattle.layout_laws.specs.MeaningLaws.{lent-state, state-lent, move-length}
-use Rattle.showing.specs.Writer.{Wrote, wrote-none, wrote-two}
-use Rattle.play.specs.Limits.{longest, answerRoom, answersRoom}
+use Rattle.showing.specs.Writer.{Wrote, wrote-two}
+use Rattle.input_line.specs.Limits.{longest}
+use Rattle.transcript.specs.AnswerTexts.{gap, gap-few, told, Put}
+use Rattle.play.specs.Limits.{answerRoom, answersRoom}
 use Rattle.play.specs.Starts.{Holds}
-
--- ---- an answer's text
--- what stands before the answer to a call that i others were made before
-unfoldable pub gap : ℕ → Bytes
-gap zero = []
-gap (suc i) = 32 ∷ []
-
-unfoldable pub told : Result Answer → Bytes
-told (done x) = answerText x
-told (refused n) = printNumber n
-
--- The text s of an answer was written at k.
-pub record Put (old : List ℕ) (k : ℕ) (s new : List ℕ) (r : ℕ) : Type 0 where
-  pub wrote : Wrote old k s new r
-  pub few : length s ≤ 4
-
--- a byte has three digits at most
-one-digit : (k n : ℕ) (v : Bytes) → n < 10 → digits (suc k) n v ≡ (48 + n) ∷ v
-unfolding digits
-one-digit k n v h = rw (lt-ltb n 10 h, digits)
-
-byte-digits : (n : ℕ) → n ≤ 255 → length (printNumber n) ≤ 3
-unfolding printNumber digits
-byte-digits n h = go (ltb n 10) (ltb (n / 10) 10)
-  where
-    v : Bytes
-    v = (48 + n / 10 % 10) ∷ (48 + n % 10) ∷ []
-
-    go : (b c : Bool) → length {A = ℕ} (elim b as (λ b. Bytes) [ true ↦ (48 + n) ∷ [] | false ↦ elim c as (λ b. Bytes) [ true ↦ (48 + n / 10) ∷ (48 + n % 10) ∷ [] | false ↦ digits 6 (n / 10 / 10) v ] ]) ≤ 3
-    go true c = omega arith
-    go false true = omega arith
-    go false false = transp (λ x. length x ≤ 3) (sym (one-digit 5 (n / 10 / 10) v (omega arith))) (omega arith)
-
-module _ (old : List ℕ) (k : ℕ) (new : List ℕ) (r : ℕ) where
-  pub gap-none : (i : ℕ) → i ≡ 0 → k ≤ answersRoom → Wrote old k (gap i) old k
-  unfolding gap
-  gap-none i e h = rw e (wrote-none old k (omega arith))
-
-  pub gap-wrote : (i : ℕ) → (i ≡ 0 → ⊥) → Wrote old k (32 ∷ []) new r → Wrote old k (gap i) new r
-  unfolding gap
-  gap-wrote zero n g = absurd (n refl)
-  gap-wrote (suc i) n g = g
-
-  -- m is the byte n
-  module _ (m n : ℕ) (e : m ≡ n) (h : m ≤ 255) where
-    pub named-put : (b : ℕ) (mid : List ℕ) (p : ℕ) → Wrote old k (b ∷ []) mid p → Wrote mid p (printNumber m) new r → Put old k (b ∷ printNumber n) new r
-    named-put b mid p f g =
-        transp (λ x. Put old k (b ∷ printNumber x) new r) e (record { wrote = wrote-two old k (b ∷ []) (printNumber m) mid new p r f g; few = omega (arith, byte-digits m h) })
-
-    pub cause-put : Wrote old k (printNumber m) new r → Put old k (printNumber n) new r
-    cause-put g = transp (λ x. Put old k (printNumber x) new r) e (record { wrote = g; few = omega (arith, byte-digits m h) })
-
-  module _ (a : Answers) where
-    pub inner-put : a ≡ M.Inner → Wrote old k (73 ∷ []) new r → Put old k (told (moveAnswer a)) new r
-    unfolding told moveAnswer answerText bytes
-    inner-put e g = rw e (record { wrote = g; few = omega arith })
-
-    pub taken-put : a ≡ M.Taken → Wrote old k (84 ∷ []) new r → Put old k (told (moveAnswer a)) new r
-    unfolding told moveAnswer answerText bytes
-    taken-put e g = rw e (record { wrote = g; few = omega arith })
-
-    pub sent-put : (b : ActorNo) → a ≡ M.Sent b → Put old k (83 ∷ printNumber (b .0)) new r → Put old k (told (moveAnswer a)) new r
-    unfolding told moveAnswer answerText bytes
-    sent-put b e g = rw e g
-
-    pub created-put : (b : ActorNo) → a ≡ M.Created b → Put old k (67 ∷ printNumber (b .0)) new r → Put old k (told (moveAnswer a)) new r
-    unfolding told moveAnswer answerText bytes
-    created-put b e g = rw e g
-
-    pub refused-put : (n : ℕ) → a ≡ M.Refused n → Put old k (printNumber n) new r → Put old k (told (moveAnswer a)) new r
-    unfolding told moveAnswer
-    refused-put n e g = rw e g
 
 -- The actor a was called, i others before it: the words w are now w′, and the answer was written at k.
 pub record CallMade (w : List ℕ) (a i : ℕ) (old : List ℕ) (k : ℕ) (w′ new : List ℕ) (r : ℕ) : Type 0 where
@@ -106,12 +31,7 @@ pub record CallMade (w : List ℕ) (a i : ℕ) (old : List ℕ) (k : ℕ) (w′ 
   pub wrote : Wrote old k (gap i ++ told (moveCall w a .result)) new r
   pub few : length (gap i ++ told (moveCall w a .result)) ≤ answerRoom
 
-gap-few : (i : ℕ) → length (gap i) ≤ 1
-unfolding gap
-gap-few zero = omega arith
-gap-few (suc i) = omega arith
-
-pub call-made : (w : List ℕ) (a i : ℕ) (old : List ℕ) (k : ℕ) (w′ new : List ℕ) (r : ℕ) (x : Answers) (mid : List ℕ) (p : ℕ)
+pub call-made : (w : List ℕ) (a i : ℕ) (old : List ℕ) (k : ℕ) (w′ new : List ℕ) (r : ℕ) (x : Moved) (mid : List ℕ) (p : ℕ)
     → moveAnswer x ≡ moveCall w a .result → w′ ≡ moveCall w a .buffer → Wrote old k (gap i) mid p → Put mid p (told (moveAnswer x)) new r
     → CallMade w a i old k w′ new r
 call-made w a i old k w′ new r x mid p e d f g =
@@ -123,7 +43,7 @@ call-made w a i old k w′ new r x mid p e d f g =
       few = transp (λ s. length s ≤ answerRoom) z (omega (arith, length-append (gap i) t, gap-few i, g .few));
     }
 
-pub ruleset answering = (needs, gap-none, gap-wrote, named-put, cause-put, inner-put, taken-put, sent-put, created-put, refused-put, call-made)
+pub ruleset answering = (needs, call-made)
 
 -- ---- one call more
 -- the last of some calls

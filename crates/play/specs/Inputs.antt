@@ -17,7 +17,7 @@ use Rattle.atlite.specs.Run.{run}
 use Rattle.atlite.specs.Program.{Input, longer, split, short, started, listed, shown}
 use Rattle.atlite.specs.Loops.{schedule, played, loops}
 use Rattle.atlite.specs.Replay.{tokens, calls, replayed, told, toldOf, replay}
-use Rattle.play.specs.Limits.{longest, scriptMost, inputRoom}
+use Rattle.input_line.specs.Limits.{longest, scriptMost, inputRoom}
 
 -- what is left of an input that is cut off behind k bytes: its line, if that ends before
 abbrev kept : ℕ → Input → Input

@@ -1,14 +1,10 @@
--- what both programs share: the first line, its entries, the state that a script starts in, and what is written
+-- what both programs share: the state that a script starts in, and its listing
 pub mod Limits
-pub mod Lines
-pub mod Entries
 pub mod Starts
-pub mod Output
 pub mod Listings
--- `loops`: the schedule line, and the run behind it
+-- `loops`: the run behind the schedule line
 pub mod Schedules
--- `replay`: the line of calls, and the calls behind it
-pub mod Tokens
+-- `replay`: the calls behind their line
 pub mod Calls
 pub mod Replays
 -- how much of an input decides

@@ -8,7 +8,7 @@ use native.Mathlib.Omega.{arith}
 use borrow.Author.Needs.{needs}
 use borrow.Author.Tests.{leb-true}
 use lib.ListN.{length, take, drop, length-append, length-drop, take-append-drop}
-use lib.Seq.{sets-eq, drop-append-le, drop-drop, drop-at, length-take-le}
+use lib.Seq.{drop-append-le, drop-drop, drop-at, length-take-le}
 use lib.Dec.{leb}
 use Rattle.atlite.specs.Base.{Result, done, refused, _>>=_, _>>_, require}
 use Rattle.atlite_laws.specs.Facts.{refused-done}
@@ -21,25 +21,12 @@ use Rattle.atlite.specs.declared.Listed.{Listed}
 use Rattle.atlite.specs.declared.Listed.the-variants as S
 use Rattle.promises.specs.Meaning.{answered, room, lent, listCall}
 use Rattle.layout_laws.specs.Results.{done-same, refused-same, bind-done, then-done, require-done}
-use Rattle.showing.specs.Writer.{Wrote}
-use Rattle.play.specs.Limits.{listingRoom, answersRoom}
 use Rattle.play.specs.Starts.{ofWords}
-use Rattle.play.specs.Output.{Written, result-same}
+use Rattle.transcript.specs.Output.{listingRoom, Written, result-same, Fronted}
 
 -- a state's listing behind the bytes h
 unfoldable pub headed : Bytes → State → Result Bytes
 headed h σ = listed σ >>= λ l. done (h ++ l)
-
--- The bytes h were put in front of n others: then there are r.
-pub record Fronted (h : List ℕ) (n : ℕ) (old : List ℕ) (r : ℕ) (new : List ℕ) : Type 0 where
-  pub count : r ≡ length h + n
-  pub text : new ≡ h ++ drop (length h) old
-
-pub head-fronted : (h old new : List ℕ) (n k : ℕ) → length h ≤ answersRoom → length h + listingRoom ≤ length old → Wrote old 0 h new k → Fronted h n old (k + n) new
-head-fronted h old new n k m l g =
-    let z : 0 + length h ≡ length h = omega arith in
-    let e : k ≡ length h = g .next (omega arith) ∙ z in
-    record { count = omega arith; text = g .is (omega arith) ∙ sets-eq h old 0 (omega arith) ∙ ap (λ i. h ++ drop i old) z }
 
 abbrev counted : Bytes → ℕ × List ℕ
 counted l = (length l, l)
@@ -138,4 +125,4 @@ module _ (w h old : List ℕ) (k : length h + listingRoom ≤ length old) where
             text = g .text ∙ ap (λ x. h ++ x) (t ∙ ap (λ x. l ++ x) u) ∙ sym (append-assoc h l (drop (length (h ++ l)) old));
           })
 
-pub ruleset laws = (needs, head-fronted, list-refuses, list-few, list-shows)
+pub ruleset laws = (needs, list-refuses, list-few, list-shows)

@@ -12,15 +12,15 @@ use Rattle.atlite.specs.State.{State}
 use Rattle.atlite.specs.Printer.{printItems}
 use Rattle.atlite.specs.Program.{listed, shown}
 use Rattle.atlite.specs.Replay.{tokens, calls, called, replayed, badToken, told, toldOf, replay}
-use Rattle.play.specs.declared.line.Line.{Line}
-use Rattle.play.specs.declared.line.Line.the-variants.{Unended}
-use Rattle.play.specs.declared.line.Entries.{Entries}
-use Rattle.play.specs.declared.line.Entries.the-variants.{Read, Bad}
-use Rattle.play.specs.Limits.{listingRoom, answersRoom, replayRoom}
-use Rattle.play.specs.Lines.{Opened, LineOf, script-lent, line-opened, line-length, line-short, line-none}
-use Rattle.play.specs.Entries.{EntriesOf, entries-held, entries-few, entries-inside, entries-short, entries-none}
+use Rattle.input_line.specs.declared.Line.{Line}
+use Rattle.input_line.specs.declared.Line.the-variants.{Unended}
+use Rattle.input_line.specs.declared.Entries.{Entries}
+use Rattle.input_line.specs.declared.Entries.the-variants.{Read, Bad}
+use Rattle.input_line.specs.Lines.{Opened, LineOf, script-lent, line-opened, line-length, line-short, line-none}
+use Rattle.input_line.specs.Entries.{EntriesOf, entries-held, entries-few, entries-inside, entries-short, entries-none}
 use Rattle.play.specs.Starts.{ofText, ofWords, start-holds, start-shows, start-stops}
-use Rattle.play.specs.Output.{Written, written-same, result-same}
+use Rattle.transcript.specs.Output.{listingRoom, Written, written-same, result-same}
+use Rattle.play.specs.Limits.{answersRoom, replayRoom}
 use Rattle.play.specs.Listings.{headed}
 use Rattle.play.specs.Calls.{Lined}
 

@@ -1,87 +1,32 @@
--- `loops`: the entries of a schedule line, and what is written once each of its calls has been made. Assumes nothing.
-use Prim.Native.Nat.{ℕ, _+_, _-_, _≤_, _<_}
+-- `loops`: what is written behind a schedule line, once each of its entries has been run. Assumes nothing.
+use Prim.Native.Nat.{ℕ, _+_, _-_}
 use mathlib.Core.Path.{_≡_, refl, sym, ap, _∙_}
-use mathlib.Core.List.{List, [], _∷_, _++_}
-use mathlib.Core.Option.{none}
-use native.Mathlib.Omega.{arith}
+use mathlib.Core.List.{List, [], _++_}
 use borrow.Author.Needs.{needs}
-use borrow.Author.Tests.{le-leb, lt-leb}
-use lib.ListN.{length, take, drop, getD, set}
-use lib.Seq.{drop-length, length-take-le}
-use Rattle.atlite.specs.Base.{Result, done, refused, _>>=_, orRefuse, if_then_else_}
+use lib.ListN.{length, take, drop}
+use lib.Seq.{length-take-le}
+use Rattle.atlite.specs.Base.{Result, done, refused, _>>=_, orRefuse}
 use Rattle.atlite.specs.Lexicon.{Bytes}
 use Rattle.atlite.specs.State.{State}
 use Rattle.atlite.specs.Run.{run}
 use Rattle.atlite.specs.Program.{listed, shown}
-use Rattle.atlite.specs.Loops.{entry, schedule, played, loops}
+use Rattle.atlite.specs.Loops.{schedule, played, loops}
 use Rattle.invariant.specs.Moves.{run-keeps}
 use Rattle.layout.specs.Numbers.{stateWords}
 use Rattle.layout.specs.Layout.{encode}
 use Rattle.promises.specs.Meaning.{lent, runCall}
 use Rattle.layout_laws.specs.MeaningLaws.{lent-state, state-lent, run-unlent, run-leaves}
-use Rattle.play.specs.declared.line.Line.{Line}
-use Rattle.play.specs.declared.line.Line.the-variants.{Unended}
-use Rattle.play.specs.declared.line.Entries.{Entries}
-use Rattle.play.specs.declared.line.Entries.the-variants.{Read, Bad}
-use Rattle.play.specs.Limits.{longest}
-use Rattle.play.specs.Lines.{Opened, LineOf, first-byte, script-lent, line-opened, line-length, line-short, line-none}
-use Rattle.play.specs.Entries.{EntriesOf, Reading, entries-held, entries-few, entries-inside, entries-none, read-starts, read-ends, read-fails, read-goes}
+use Rattle.input_line.specs.declared.Line.{Line}
+use Rattle.input_line.specs.declared.Line.the-variants.{Unended}
+use Rattle.input_line.specs.declared.Entries.{Entries}
+use Rattle.input_line.specs.declared.Entries.the-variants.{Read, Bad}
+use Rattle.input_line.specs.Lines.{Opened, LineOf, script-lent, line-opened, line-length, line-short, line-none}
+use Rattle.input_line.specs.Entries.{EntriesOf, entries-held, entries-few, entries-inside, entries-none}
 use Rattle.play.specs.Starts.{ofText, ofWords, start-shows, start-stops}
-use Rattle.play.specs.Output.{Written, written-same, result-same}
+use Rattle.transcript.specs.Output.{Written, written-same, result-same}
 use Rattle.play.specs.Listings.{headed}
 
--- ---- the line
--- Of the schedule line l the first i bytes are entries, which stand in front of xs.
-pub record Scheduling (l xs : List ℕ) (i : ℕ) : Type 0 where
-  pub passed : i ≤ length l
-  pub short : length l ≤ longest
-  pub read : Reading (schedule l) (schedule (drop i l)) xs i
-
-pub schedule-starts : (l xs : List ℕ) → length l ≤ longest → length xs ≡ longest → Scheduling l xs 0
-schedule-starts l xs h z = record { passed = omega arith; short = h; read = read-starts (schedule l) xs z }
-
--- the first byte
-module _ (b : ℕ) (l : List ℕ) where
-  schedule-low : b < 48 → schedule (b ∷ l) ≡ none
-  unfolding schedule if_then_else_
-  schedule-low h = rw (lt-leb 48 b h, schedule)
-
-  schedule-high : 48 ≤ b → 51 < b → schedule (b ∷ l) ≡ none
-  unfolding schedule if_then_else_
-  schedule-high h k = rw (le-leb 48 b h, lt-leb b 51 k, schedule)
-
-  schedule-more : 48 ≤ b → b ≤ 51 → schedule (b ∷ l) ≡ entry b (schedule l)
-  unfolding schedule if_then_else_
-  schedule-more h k = rw (le-leb 48 b h, le-leb b 51 k, schedule)
-
-module _ (l xs : List ℕ) (i : ℕ) (g : Scheduling l xs i) where
-  pub schedule-ends : length l ≤ i → EntriesOf (schedule l) xs (Read i)
-  unfolding schedule
-  schedule-ends h =
-      let z : i ≡ length l = omega (arith, g .passed) in
-      let d : drop i l ≡ [] = rw z (drop-length l) in
-      read-ends (schedule l) (schedule (drop i l)) xs i (g .read) (ap schedule d)
-
-  module _ (h : i < length l) where
-    pub schedule-under : getD l i 0 < 48 → EntriesOf (schedule l) xs Bad
-    schedule-under k = read-fails (schedule l) (schedule (drop i l)) xs i (g .read) (ap schedule (first-byte l i h) ∙ schedule-low (getD l i 0) (drop (i + 1) l) k)
-
-    module _ (k : 48 ≤ getD l i 0) where
-      pub schedule-over : 51 < getD l i 0 → EntriesOf (schedule l) xs Bad
-      schedule-over m = read-fails (schedule l) (schedule (drop i l)) xs i (g .read) (ap schedule (first-byte l i h) ∙ schedule-high (getD l i 0) (drop (i + 1) l) k m)
-
-      pub schedule-goes : getD l i 0 ≤ 51 → Scheduling l (set xs i (getD l i 0 - 48)) (i + 1)
-      schedule-goes m = record {
-        passed = omega arith;
-        short = g .short;
-        read =
-            read-goes (schedule l) (schedule (drop i l)) xs i (g .read) (getD l i 0) (schedule (drop (i + 1) l))
-            (ap schedule (first-byte l i h) ∙ schedule-more (getD l i 0) (drop (i + 1) l) k m) (omega (arith, g .short));
-      }
-
-pub ruleset reading = (needs, schedule-starts, schedule-ends, schedule-under, schedule-over, schedule-goes)
-
--- ---- what is left to do of a state
+-- what is left to do of a state
 unfoldable pub ran : List ℕ → State → Result Bytes
 ran es σ = listed (run σ es .state)
 

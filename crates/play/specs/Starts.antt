@@ -29,7 +29,7 @@ use Rattle.promises.specs.Meaning.{answered, tableIn, lent, readCall, loadCall}
 use Rattle.layout_laws.specs.MeaningLaws.{lent-state, read-done, read-length}
 use Rattle.layout_laws.specs.Outcomes.{room-enough}
 use Rattle.layout_laws.specs.Results.{refused-same}
-use Rattle.play.specs.Output.{Written, result-same}
+use Rattle.transcript.specs.Output.{Written, result-same}
 
 -- ---- what is left to do
 -- of the text of a script, and of the words of a state, where f is to be done with the state

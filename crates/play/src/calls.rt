@@ -1,80 +1,31 @@
 // What the program `replay` writes: a line of calls, a script, the answer to each call, and the listing of the state that they leave.
 ghost use mathlib.Core.Path.{_≡_};
 ghost use mathlib.Core.List.{_++_};
-ghost use Prim.Native.Nat.{_+_, _≤_, _<_};
+ghost use Prim.Native.Nat.{_≤_};
 ghost use lib.ListN.{length, drop};
 ghost use Rattle.atlite.specs.Program.{shown};
-ghost use Rattle.atlite.specs.Replay.{tokens, calls, badToken, replay};
-ghost use Rattle.play.specs.Limits.{longest, listingRoom, replayRoom};
-ghost use Rattle.play.specs.Lines.{Opened};
-ghost use Rattle.play.specs.Entries.{EntriesOf};
+ghost use Rattle.atlite.specs.Replay.{replay};
+ghost use Rattle.input_line.specs.Limits.{longest};
+ghost use Rattle.input_line.specs.Lines.{Opened};
+ghost use Rattle.transcript.specs.Output.{Written};
+ghost use Rattle.play.specs.Limits.{replayRoom};
 ghost use Rattle.play.specs.Starts.{Holds, ofText, ofWords};
-ghost use Rattle.play.specs.Output.{Written};
-ghost use Rattle.play.specs.Tokens.{Skips};
 ghost use Rattle.play.specs.Replays.{replayFrom};
 use crate::answers;
-use crate::line;
-use crate::line::Entries;
-use crate::line::Line;
 use crate::show;
 use crate::start;
 use atlite::Loaded;
+use input_line::Entries;
+use input_line::Line;
 
 // The bytes of one answer: a letter, a number that is a byte, and the space or the end of the line behind them.
 const ANSWER: usize = 5;
 
 // The bytes that the line of the answers may have.
-const ANSWERS: usize = line::LONGEST * ANSWER + 1;
+const ANSWERS: usize = input_line::LONGEST * ANSWER + 1;
 
 // The bytes that `replay` may write.
-pub const ROOM: usize = ANSWERS + show::LISTING;
-
-// Where the next digit of a line has to stand: behind the space at `i`, if that is one behind a digit.
-fn next_digit(line: &[u8], i: usize) -> usize
-    requires { ⌜ i < length (now line) ⌝ }
-    ensures { λ r. ⌜ Skips (now (line .entry)) i r ⌝ }
-{
-    if i == 0 {
-        return i;
-    }
-    if line[i] == b' ' {
-        return i + 1;
-    }
-    i
-}
-
-// Puts the actor numbers of a line of calls in front of `entries`. A space is taken only with the digit behind it.
-fn read_calls(line: &[u8], entries: &mut [u8]) -> Entries
-    requires { ⌜ (length (now line) ≤ longest) × (length (now entries) ≡ longest) ⌝ }
-    ensures { λ r. ⌜ EntriesOf (calls (tokens (now (line .entry)))) (now (entries .exit)) r ⌝ }
-{
-    let mut n = 0;
-    let mut i = 0;
-    while i < line.len() {
-        let j = next_digit(line, i);
-        if line.len() <= j {
-            return Entries::Bad;
-        }
-        let b = line[j];
-        if b < b'0' {
-            return Entries::Bad;
-        }
-        if b'9' < b {
-            return Entries::Bad;
-        }
-        entries[n] = b - b'0';
-        n += 1;
-        i = j + 1;
-    }
-    Entries::Read(n)
-}
-
-fn bad_token(out: &mut [u8]) -> usize
-    requires { ⌜ listingRoom ≤ length (now out) ⌝ }
-    ensures { λ r. ⌜ Written badToken (now (out .entry)) r (now (out .exit)) ⌝ }
-{
-    showing::put_bytes(b"(bad token)\n", out, 0)
-}
+pub const ROOM: usize = ANSWERS + transcript::LISTING;
 
 // Makes the calls, and lists what they leave behind their answers.
 fn replay_state(state: &mut [u32], entries: &[u8], out: &mut [u8]) -> usize
@@ -95,7 +46,7 @@ fn replay_script(script: &[u8], entries: &[u8], out: &mut [u8]) -> usize
     let started = start::start(script, &mut state);
     match started {
         Loaded::Done => replay_state(&mut state, entries, out),
-        Loaded::Refused(n) => show::refuse(n, out),
+        Loaded::Refused(n) => transcript::refuse(n, out),
     }
 }
 
@@ -104,12 +55,12 @@ fn replay_parts(input: &[u8], n: usize, out: &mut [u8]) -> usize
     requires { ⌜ Opened (now input) n × (replayRoom ≤ length (now out)) ⌝ }
     ensures { λ r. ⌜ Written (replay (now (input .entry))) (now (out .entry)) r (now (out .exit)) ⌝ }
 {
-    let mut entries = [0u8; line::LONGEST];
-    let read = read_calls(&input[..n], &mut entries);
+    let mut entries = [0u8; input_line::LONGEST];
+    let read = input_line::read_calls(&input[..n], &mut entries);
     let script = n + 1;
     match read {
         Entries::Read(k) => replay_script(&input[script..], &entries[..k], out),
-        Entries::Bad => bad_token(out),
+        Entries::Bad => transcript::bad_token(out),
     }
 }
 
@@ -118,10 +69,10 @@ fn replay_input(input: &[u8], out: &mut [u8]) -> usize
     requires { ⌜ replayRoom ≤ length (now out) ⌝ }
     ensures { λ r. ⌜ Written (replay (now (input .entry))) (now (out .entry)) r (now (out .exit)) ⌝ }
 {
-    let first = line::first_line(input);
+    let first = input_line::first_line(input);
     match first {
         Line::Ends(n) => replay_parts(input, n, out),
-        Line::Unended => bad_token(out),
+        Line::Unended => transcript::bad_token(out),
     }
 }
 

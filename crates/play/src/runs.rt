@@ -4,42 +4,19 @@ ghost use mathlib.Core.List.{_++_};
 ghost use Prim.Native.Nat.{_≤_};
 ghost use lib.ListN.{length, drop};
 ghost use Rattle.atlite.specs.Program.{shown};
-ghost use Rattle.atlite.specs.Loops.{schedule, loops};
-ghost use Rattle.play.specs.Limits.{longest, listingRoom};
-ghost use Rattle.play.specs.Lines.{Opened};
-ghost use Rattle.play.specs.Entries.{EntriesOf};
+ghost use Rattle.atlite.specs.Loops.{loops};
+ghost use Rattle.input_line.specs.Lines.{Opened};
+ghost use Rattle.transcript.specs.Output.{listingRoom, Written};
 ghost use Rattle.play.specs.Starts.{ofText, ofWords};
-ghost use Rattle.play.specs.Output.{Written};
 ghost use Rattle.play.specs.Schedules.{ran};
-use crate::line;
-use crate::line::Entries;
-use crate::line::Line;
 use crate::show;
 use crate::start;
 use atlite::Loaded;
+use input_line::Entries;
+use input_line::Line;
 
 // The cause of a bad schedule line.
 const BAD_LINE: u8 = 2;
-
-// Puts the actor numbers of a schedule line in front of `entries`.
-fn read_schedule(line: &[u8], entries: &mut [u8]) -> Entries
-    requires { ⌜ (length (now line) ≤ longest) × (length (now entries) ≡ longest) ⌝ }
-    ensures { λ r. ⌜ EntriesOf (schedule (now (line .entry))) (now (entries .exit)) r ⌝ }
-{
-    let mut i = 0;
-    while i < line.len() {
-        let b = line[i];
-        if b < b'0' {
-            return Entries::Bad;
-        }
-        if b'3' < b {
-            return Entries::Bad;
-        }
-        entries[i] = b - b'0';
-        i += 1;
-    }
-    Entries::Read(i)
-}
 
 // Makes the moves of the schedule, and lists what they leave.
 fn play_state(state: &mut [u32], entries: &[u8], out: &mut [u8]) -> usize
@@ -59,7 +36,7 @@ fn play_script(script: &[u8], entries: &[u8], out: &mut [u8]) -> usize
     let started = start::start(script, &mut state);
     match started {
         Loaded::Done => play_state(&mut state, entries, out),
-        Loaded::Refused(n) => show::refuse(n, out),
+        Loaded::Refused(n) => transcript::refuse(n, out),
     }
 }
 
@@ -68,12 +45,12 @@ fn play_parts(input: &[u8], n: usize, out: &mut [u8]) -> usize
     requires { ⌜ Opened (now input) n × (listingRoom ≤ length (now out)) ⌝ }
     ensures { λ r. ⌜ Written (loops (now (input .entry))) (now (out .entry)) r (now (out .exit)) ⌝ }
 {
-    let mut entries = [0u8; line::LONGEST];
-    let read = read_schedule(&input[..n], &mut entries);
+    let mut entries = [0u8; input_line::LONGEST];
+    let read = input_line::read_schedule(&input[..n], &mut entries);
     let script = n + 1;
     match read {
         Entries::Read(k) => play_script(&input[script..], &entries[..k], out),
-        Entries::Bad => show::refuse(BAD_LINE, out),
+        Entries::Bad => transcript::refuse(BAD_LINE, out),
     }
 }
 
@@ -82,10 +59,10 @@ fn play_input(input: &[u8], out: &mut [u8]) -> usize
     requires { ⌜ listingRoom ≤ length (now out) ⌝ }
     ensures { λ r. ⌜ Written (loops (now (input .entry))) (now (out .entry)) r (now (out .exit)) ⌝ }
 {
-    let first = line::first_line(input);
+    let first = input_line::first_line(input);
     match first {
         Line::Ends(n) => play_parts(input, n, out),
-        Line::Unended => show::refuse(BAD_LINE, out),
+        Line::Unended => transcript::refuse(BAD_LINE, out),
     }
 }
 

@@ -1,0 +1,13 @@
+-- `put_named` meets its contract. Assumes nothing.
+use Rattle.transcript.specs.AnswerTexts.{laws}
+use Rattle.transcript.proofs.answers.put_named.Statement.{statement}
+use Rattle.transcript.proofs.answers.put_named.Tie as tie
+
+pub put-named-spec : {M : Type 1} → statement M
+put-named-spec =
+    tie.close (tie.spec (λ c κs. search laws)  -- wide-requires
+    (λ c κs. search laws)  -- put-requires
+    (λ c κs. search laws)  -- put-number-requires
+    (λ c. search laws)  -- same-length
+    (λ c. search laws)  -- returns
+    )
