@@ -5,13 +5,13 @@ use Prim.Native.Nat.{ℕ}
 use mathlib.Core.List.{List, [], _∷_}
 use lib.ListN.{length}
 use lib.Dec.{eqb}
-use Rattle.atlite.specs.Base.{member}
+use Rattle.atlite.specs.Base.{member, if_then_else_}
 use Rattle.atlite_laws.specs.Facts.{Every, holds, nothing, every-if}
 use Rattle.atlite.specs.Term.{this, ·t, ·r, ·x, Value, null, Name, plain, twoWay, resolve, register, Op, set, call, send, Term, val, var, op, letIn, future, literal, Terms, nil, cons, Inits, noField, field, Methods, noMethod, method, two, Signature, sameSignature, signatures, values, isValue}
 use Rattle.atlite.specs.Subst.{subst, substAll, substInits, substMethods, substParams, enters}
 use Rattle.atlite.specs.Redex.{ready, redex, redexAmong, plug, plugAmong}
 use Rattle.atlite.specs.State.{Message, message}
-use Rattle.atlite_laws.specs.Closures.{functionWith, resolvingWith, two-way}
+use Rattle.atlite_laws.specs.Closures.{closure, functionWith, resolvingWith, two-way}
 use Rattle.atlite.specs.Rules.{choice, updates, invoke, forward, forwardAll}
 use Rattle.atlite.specs.Move.{initOf, lastOf, process}
 use Rattle.invariant.specs.Terms.{chosen, methods-named}
@@ -160,11 +160,11 @@ module _ (Q : Op Name → Type 0) (L : List Signature → Type 0) where
 
     -- the abbreviations fn and resolve
     pub function-throughout : (z : Term) (x : ℕ) (e : Term) → Throughout z → Throughout e → Throughout (functionWith z x e)
-    unfolding functionWith signatures
+    unfolding functionWith closure signatures
     function-throughout z x e hz h = (hz, (tt, (K .function _, (subst-throughout this (var ·t) e tt h, tt))))
 
     pub resolving-throughout : (z e d : Term) → Throughout z → Throughout e → Throughout d → Throughout (resolvingWith z e d)
-    unfolding resolvingWith
+    unfolding resolvingWith functionWith closure subst if_then_else_
     resolving-throughout z e d hz he hd =
         (he, (function-throughout z ·x (op (send resolve) (two (var ·r) (var ·x))) hz (K .sends _, (tt, (tt, tt))), (K .sends _, (hd, (tt, tt)))))
 

@@ -3,14 +3,15 @@
 use Prim.Native.Nat.{ℕ}
 use mathlib.Core.Path.{_≡_}
 use mathlib.Core.List.{List, [], _∷_}
-use Rattle.atlite.specs.Base.{done}
+use Rattle.atlite.specs.Base.{done, if_then_else_}
 use Rattle.atlite_laws.specs.Facts.{Every, holds, nothing, every-done, every-bind, checked}
 use Rattle.atlite.specs.Term.{this, ·r, Value, Name, Op, call, written, Term, val, var, op, Terms, nil, cons, seq, two, append, one, Signature}
 use Rattle.atlite.specs.State.{State}
 use Rattle.atlite.specs.Script.{SrcOp, kept, ask, resolve, Src, Srcs, SrcFields, SrcMethods, Line, expression, define, join}
 use Rattle.atlite.specs.Scope.{signatures}
 use Rattle.atlite.specs.Expansion.{function, asking, resolving, waiting, ofTwo, expandOp, expand, expandAll, expandFields, expandMethods}
-use Rattle.atlite_laws.specs.Closures.{functionWith, resolvingWith}
+use Rattle.atlite.specs.Subst.{subst}
+use Rattle.atlite_laws.specs.Closures.{closure, functionWith, resolvingWith}
 use Rattle.atlite.specs.Table.{Table}
 use Rattle.atlite.specs.Load.{start, load}
 use Rattle.atlite.specs.Limits.{withinLimits, full}
@@ -88,14 +89,14 @@ module _ (Q : Op Name → Type 0) (L : List Signature → Type 0) (K : Allows Q 
   two-throughout f (cons e (cons d es)) i h = i e d (h .0) (h .1 .0)
 
   op-throughout : (o : SrcOp) (es : Terms) → W o → ThroughoutAll Q L es → Throughout Q L (expandOp o es)
-  unfolding expandOp asking resolving function resolvingWith functionWith
+  unfolding expandOp asking resolving function resolvingWith closure subst if_then_else_
   op-throughout (kept o) es w h = (k o w, h)
   op-throughout (ask m) es w h = ((K .sends _, append-throughout es (one (var ·r)) h (tt, tt)), tt)
   op-throughout resolve es w h = two-throughout resolving es (λ e d i j. resolving-throughout Q L K (var this) e d tt i j) h
   op-throughout SrcOp.seq es w h = two-throughout seq es (λ e d i j. (i, j)) h
 
   mutual
-    unfolding expand function functionWith waiting
+    unfolding expand function functionWith closure waiting
 
     expand-throughout : (e : Src) → ThroughoutSrc W L e → Throughout Q L (expand e)
     expand-throughout (Src.num n) h = tt

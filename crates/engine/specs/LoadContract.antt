@@ -12,12 +12,16 @@ use Rattle.atlite.specs.declared.Loaded.{Loaded}
 use Rattle.atlite.specs.declared.Loaded.the-variants.{Done, Refused}
 use Rattle.layout.specs.Numbers.{stateWords, tableWords}
 use Rattle.decoding.specs.TableReading.{tableOf}
-use Rattle.promises.specs.Meaning.{answered, tableIn, loadCall, LoadsCall}
+use Rattle.promises.specs.Meaning.{answered, tableIn, loadCall}
 use Rattle.layout_laws.specs.Outcomes.{room-enough, room-short}
 use Rattle.layout_laws.specs.MeaningLaws.{lent-table}
 use Rattle.loading.specs.LoadContract.{Loads}
 use Rattle.loading.specs.LoadCall.{load-call}
 use Rattle.state.specs.ListCall.{done-told, refused-told}
+
+-- The answer is r and the state's words are new: what `loadCall` says of the words t of the table and the words old.
+unfoldable pub LoadsCall : List ℕ → List ℕ → Loaded → List ℕ → Type 0
+LoadsCall t old r new = (loadAnswer r ≡ loadCall t old .result) × (new ≡ loadCall t old .buffer)
 
 module _ (t old : List ℕ) where
   pub table-short : length t < tableWords → LoadsCall t old (Refused 6) old

@@ -1,7 +1,8 @@
 // Loading a table into a state.
 ghost use mathlib.Core.Path.{_≡_};
 ghost use Rattle.atlite.specs.Answers.{loadAnswer};
-ghost use Rattle.promises.specs.Meaning.{loadCall, LoadsCall};
+ghost use Rattle.promises.specs.Meaning.{loadCall};
+ghost use Rattle.engine.specs.LoadContract.{LoadsCall};
 use atlite::Loaded;
 use layout::STATE;
 use layout::TABLE;

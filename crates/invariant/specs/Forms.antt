@@ -7,7 +7,8 @@ use Prim.Native.Nat.{ℕ, _+_, _<_}
 use native.Mathlib.Omega.{arith}
 use Rattle.atlite.specs.Base.{member, all, if_then_else_, any, distinctBy}
 use Rattle.atlite.specs.Term.{this, ·t, ·r, ·l, ·x, apply, Value, plain, resolve, send, Term, var, op, two, countTerms, initNames, signatures, seen}
-use Rattle.atlite_laws.specs.Closures.{functionWith, resolvingWith}
+use Rattle.atlite.specs.Subst.{subst}
+use Rattle.atlite_laws.specs.Closures.{closure, functionWith, resolvingWith}
 use Rattle.atlite.specs.Valid.{isName, isVariable, fewDistinct, fieldsNamed, methodsNamed, parameters, sendable, WellFormed}
 use borrow.Author.Tests.{lt-ltb}
 use Rattle.invariant.specs.Terms.{put, sub-skip}
@@ -41,7 +42,7 @@ module _ (w : ℕ) (P : Value → Type 0) where
   -- what stands for `this` around a function is bound as .t, and the body is an object's method
   pub function-wf : (zs : List ℕ) (z : Term) (x : ℕ) (e : Term) → isVariable w x ≡ true → WellFormed z w P zs
       → WellFormed e w P (x ∷ this ∷ ·t ∷ zs) → WellFormed (functionWith z x e) w P zs
-  unfolding functionWith seen initNames signatures any if_then_else_
+  unfolding functionWith closure seen initNames signatures any if_then_else_
   function-wf zs z x e hx hz h =
       let vs = x ∷ this ∷ ·t ∷ zs in
       let u : member ·t vs ≡ true = sub-skip x (this ∷ ·t ∷ zs) ·t refl in
@@ -49,7 +50,7 @@ module _ (w : ℕ) (P : Value → Type 0) where
 
   pub resolving-wf : (zs : List ℕ) (z e d : Term) → WellFormed z w P (·r ∷ zs) → WellFormed e w P zs → WellFormed d w P (·l ∷ ·r ∷ zs)
       → WellFormed (resolvingWith z e d) w P zs
-  unfolding resolvingWith sendable countTerms any if_then_else_
+  unfolding resolvingWith functionWith closure subst sendable countTerms any if_then_else_
   resolving-wf zs z e d hz h k =
       let b = function-wf (·r ∷ zs) z ·x (op (send resolve) (two (var ·r) (var ·x))) (hidden w ·x (omega arith) (omega arith)) hz (refl, (refl, (refl, tt))) in
       (hidden w ·r (omega arith) (omega arith), h, (hidden w ·l (omega arith) (omega arith), b, (refl, (k, (refl, tt)))))

@@ -4,14 +4,14 @@
 use Prim.Native.Nat.{ℕ, _+_}
 use mathlib.Core.Path.{_≡_, refl, sym, ap, ap₂, _∙_}
 use mathlib.Core.Bool.{Bool, true, false}
-use mathlib.Core.List.{[], _∷_}
 use native.Mathlib.Omega.{arith}
 use borrow.Author.Tests.{ne-eqb, eqb-true, leb-true}
 use lib.Dec.{eqb, leb, ltb}
 use Rattle.atlite.specs.Base.{if_then_else_}
-use Rattle.atlite.specs.Term.{this, ·t, ·f, ·r, ·l, ·x, apply, firstWord, Value, Name, Kind, object, isolate, actor, register, Term, Terms, nil, cons, Inits, noField, Methods, noMethod, method, seq, one, two, append, call, send, written, val, var, op, letIn, literal, future}
+use Rattle.atlite.specs.Term.{this, ·t, ·f, ·r, ·l, apply, firstWord, Value, Name, Kind, object, isolate, actor, register, Term, Terms, nil, cons, Inits, noField, Methods, noMethod, method, seq, one, two, append, call, send, written, val, var, op, letIn, literal, future}
 use Rattle.atlite.specs.Subst.{enters, subst, substAll}
 use Rattle.atlite.specs.Script.{SrcOp, kept, ask, resolve, Src, Srcs, SrcFields, SrcMethods}
+use Rattle.atlite_laws.specs.Closures.{closure, resolvingWith}
 use Rattle.atlite.specs.Expansion.{function, asking, ofTwo, Expansion, expandOp, expand, expandAll, expandFields, expandMethods}
 use Rattle.atlite.specs.Valid.{isName}
 use Rattle.atlite.specs.Table.{Named, Grammatical, GrammaticalAll, GrammaticalFields, GrammaticalMethods}
@@ -31,19 +31,11 @@ selfTerm outside = val Value.null
 selfTerm held = var ·t
 selfTerm itself = var this
 
--- the function of parameter x whose body is e already
-unfoldable pub closure : Term → ℕ → Term → Term
-closure z x e = letIn ·t z (literal object noField (method apply (x ∷ []) e noMethod))
-
 -- ---- expansion
-unfoldable pub resolvingFor : Self → Term → Term → Term
-resolvingFor s e d =
-    letIn ·r e (letIn ·l (closure (selfTerm s) ·x (op (send Name.resolve) (two (var ·r) (var ·x)))) (op (send register) (two d (var ·l))))
-
 unfoldable pub expandOpWith : SrcOp → Self → Terms → Term
 expandOpWith (kept o) s es = op (written o) es
 expandOpWith (ask m) s es = asking m es
-expandOpWith resolve s es = ofTwo (resolvingFor s) es
+expandOpWith resolve s es = ofTwo (resolvingWith (selfTerm s)) es
 expandOpWith SrcOp.seq s es = ofTwo seq es
 
 unfoldable mutual
@@ -128,7 +120,7 @@ unfolding function closure subst enters if_then_else_
 closure-this z x e d h = ap (closure z x) h
 
 op-this : (o : SrcOp) (es : Terms) (s : Self) → subst this (selfTerm s) (expandOp o es) ≡ expandOpWith o s (substAll this (selfTerm s) es)
-unfolding Expansion expandOpWith resolvingFor closure subst enters if_then_else_
+unfolding Expansion expandOpWith resolvingWith closure subst enters if_then_else_
 op-this (kept o) es s = refl
 op-this (ask m) es s = rw (append-last (selfTerm s) es)
 op-this resolve nil s = refl

@@ -11,6 +11,7 @@ use Rattle.atlite.specs.Base.{if_then_else_}
 use Rattle.atlite.specs.Term.{this, ·t, ·f, ·r, ·l, ·s, ·x, apply, Kind, Name, plain, Op, call, send, written, Term, Terms, cons, one, two as both, seq, append, var, op, countTerms, shape}
 use Rattle.atlite.specs.Script.{SrcOp, kept, ask, resolve, Src, num, null, var, op, letIn, future, fn, when, literal, Srcs, nil, cons, SrcFields, noField, field, SrcMethods, noMethod, method, countSrcs}
 use Rattle.atlite.specs.Expansion.{asking, ofTwo}
+use Rattle.atlite_laws.specs.Closures.{closure, resolvingWith}
 use Rattle.atlite.specs.Valid.{operable}
 use Rattle.atlite.specs.Table.{countFields, countMethods, Grammatical, GrammaticalAll, GrammaticalFields, GrammaticalMethods, writable}
 use Rattle.layout.specs.Numbers.{payload, nameLimit, taggedLimit, digitLimit}
@@ -26,7 +27,7 @@ use Rattle.layout_laws.specs.Parse.{unary, binary, many, parts}
 use Rattle.layout_laws.specs.ParseHeads.{head-op, head-let, head-future, head-literal}
 use Rattle.layout_laws.specs.Arity.{head-wants}
 use Rattle.printer.specs.Nesting.{nesting, nestingAll, nestingFields, nestingMethods}
-use Rattle.loading.specs.Expanding.{resolvingFor, expandOpWith, Self, outside, held, itself, selfTerm, closure, expandWith, expandAllWith, expandFieldsWith, expandMethodsWith}
+use Rattle.loading.specs.Expanding.{expandOpWith, Self, outside, held, itself, selfTerm, expandWith, expandAllWith, expandFieldsWith, expandMethodsWith}
 use Rattle.loading.specs.ExpandedWords.{leafIn, closureWords, askWords, resolverWords, waiterWords}
 use Rattle.loading.specs.Expands.{One, Many, Brings, many-none, many-cons, many-join, many-one, many-two, one-same, one-leaf, one-form, one-front, one-resolve, one-when}
 use Rattle.loading.specs.FormWords.{brings-copy, brings-literal, brings-header, brings-fn, brings-ask, brings-seq}
@@ -90,8 +91,8 @@ closure-words s x e = rw (self-words s) (ap (λ l. binding ·t ∷ selfWord s �
 module _ (s : Self) where
   resolve-words : (a b : Src)
       → (binding ·r ∷ []) ++ (encodeTerm (expandWith a s) ++ (resolverWords (selfWord s) ++ (encodeTerm (expandWith b s) ++ (variable ·l ∷ []))))
-      ≡ encodeTerm (resolvingFor s (expandWith a s) (expandWith b s))
-  unfolding resolvingFor encodeTerm resolverWords closureWords tagged countTerms
+      ≡ encodeTerm (resolvingWith (selfTerm s) (expandWith a s) (expandWith b s))
+  unfolding resolvingWith encodeTerm resolverWords closureWords tagged countTerms
   resolve-words a b = rw (closure-words s ·x (op (send Name.resolve) (both (var ·r) (var ·x))))
 
   when-words : (x : ℕ) (a b : Src)
@@ -171,7 +172,7 @@ module _ (w : ℕ) (l : w ≤ 64) where
       one-same n (selfWord s) _ _ _ (ask-words s m (cons e es) c refl (omega arith) (omega arith))
       (one-form (selfWord s) x n (suc c) (selfWord s) (askWords x) (variable ·r ∷ variable ·f ∷ []) _ _ d (brings-ask (selfWord s) x c (omega arith) (omega arith)) (each-many (n - 1) s (cons e es) h))
   op-one resolve es n s g d h =
-      pair-one (node 66 0) (resolvingFor s) es n s (eqb-true (countSrcs es) 2 g) h
+      pair-one (node 66 0) (resolvingWith (selfTerm s)) es n s (eqb-true (countSrcs es) 2 g) h
       (λ a b p q. one-same n (selfWord s) _ _ _ (resolve-words s a b) (one-resolve (selfWord s) (node 66 0) _ _ _ _ n d (omega arith) p q))
   op-one SrcOp.seq es n s g d h =
       pair-one (node 68 0) seq es n s (eqb-true (countSrcs es) 2 g) h

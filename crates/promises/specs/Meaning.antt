@@ -20,10 +20,9 @@ use Rattle.atlite.specs.Listing.{listing}
 use Rattle.atlite.specs.Keywords.{operators}
 use Rattle.atlite.specs.Table.{textOf, Table, read}
 use Rattle.atlite.specs.Load.{load}
-use Rattle.atlite.specs.Answers.{moveAnswer, runAnswer, loadAnswer, listAnswer}
+use Rattle.atlite.specs.Answers.{moveAnswer, runAnswer, listAnswer}
 use Rattle.atlite.specs.declared.Moved.{Moved}
 use Rattle.atlite.specs.declared.Ran.{Ran}
-use Rattle.atlite.specs.declared.Loaded.{Loaded}
 use Rattle.atlite.specs.declared.Listed.{Listed}
 use Rattle.layout.specs.Numbers.{stateWords, tableWords}
 use Rattle.layout.specs.Layout.{encode}
@@ -101,11 +100,8 @@ listCall state text = answered text (do
   done (length (listing σ), listing σ))
 
 -- ---- calls that were made
--- What was answered and what the written list holds are what the call says of the lists that it was lent. These are the contracts of the
--- code's calls, so whatever code meets them is meant where two lists of calls are compared (`Claim`).
-unfoldable pub LoadsCall : List ℕ → List ℕ → Loaded → List ℕ → Type 0
-LoadsCall table old r new = (loadAnswer r ≡ loadCall table old .result) × (new ≡ loadCall table old .buffer)
-
+-- What was answered and what the written list holds are what the call says of the lists that it was lent. So the contracts of the code's calls
+-- say it of a move, a run and a listing; whatever code meets them is meant where two lists of calls are compared (`Claim`).
 unfoldable pub MovesCall : List ℕ → ℕ → Moved → List ℕ → Type 0
 MovesCall old a r new = (moveAnswer r ≡ moveCall old a .result) × (new ≡ moveCall old a .buffer)
 

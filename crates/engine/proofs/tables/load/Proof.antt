@@ -1,6 +1,6 @@
 -- `load` meets its contract, which is what `load_lent` ensures, written out. Assumes nothing.
 use borrow.Author.Needs.{needs}
-use Rattle.promises.specs.Meaning.{LoadsCall}
+use Rattle.engine.specs.LoadContract.{LoadsCall}
 use Rattle.engine.proofs.tables.load.Statement.{statement}
 use Rattle.engine.proofs.tables.load.Tie as tie
 
