@@ -2,7 +2,7 @@
 -- and fuel above the length of the text is enough, since every item of a form is shorter than the form. Assumes nothing.
 use Rattle.std.specs.Prelude.{◌≡◌, true, length}
 use Rattle.std.proofs.Math.Path.{refl, ap}
-use Rattle.std.proofs.Common.{sym, ◌∙◌}
+use Rattle.std.proofs.Common.{sym, ◌∙◌, subst}
 use Rattle.std.proofs.Math.Option.{Option, none, some}
 use mathlib.Core.List.{List, [], ◌∷◌, ◌++◌, map, append_assoc}
 use Prim.Native.Nat.{ℕ, zero, suc, ◌+◌, ◌-◌, ◌≤◌, ◌<◌}
@@ -11,7 +11,7 @@ use Rattle.std.proofs.Math.ListN.{length-append}
 use Rattle.atlite.specs.Base.{Base, done, refused, or_refuse, bytes}
 use Rattle.atlite.specs.Lexicon.{Bytes, in_word, is_letter, is_digit}
 use Rattle.atlite.specs.Script.{SrcOp, Src, Srcs, nil, cons, SrcFields, no_field, field, SrcMethods, no_method, method, Line, expression, define, src_shape, count_srcs}
-use Rattle.atlite.specs.Printer.{Printer, form, print_word, print, print_all, print_fields, print_methods, print_line, print_script, placed}
+use Rattle.atlite.specs.Printer.{Printer, form, print_word, print, print_all, print_fields, print_methods, print_line, print_script, placed, src_names}
 use Rattle.atlite.specs.Keywords.{Keywords, print_kind, src_word, Operator, bare, naming, let_in, future, fn, when, literal, operators}
 use Rattle.atlite.specs.Reader.{item, eat, after, spaced, spaced_word, read_operands, read_fields, read_methods, least, more, spelled, read_form, read_expr, read_definition, read_line, read_lines}
 use Rattle.atlite.specs.Valid.{words_hold}
@@ -62,8 +62,9 @@ module _ (ws : List Bytes) (held : words_hold ws ≡ true) where
       let (word, names, asks) = operator-writes (src_word o) (bare o) s.0 in
       let (_, low, high) = (asks (length ws) (count_srcs es)).0 h in
       let z = names ws in
-      let v = rw (z, placed-none (print_all ws es)) at l in
-      rw (z, placed-none (print_all ws es)) (form-takes (src_word o) (bare o) (print_all ws es) (Src.op o es) n j s v (λ m w.
+      let items : placed (src_names ws o) (print_all ws es) ≡ print_all ws es = ap (λ i. placed i (print_all ws es)) z ∙ placed-none (print_all ws es) in
+      let v = subst (λ i. length (form (src_word o ∷ i)) < n) items l in
+      subst (λ i. read_expr operators n ws (form (src_word o ∷ i) ++ j) ≡ done (Src.op o es, j)) (sym items) (form-takes (src_word o) (bare o) (print_all ws es) (Src.op o es) n j s v (λ m w.
       rw (operands-take es m _ _ p low high w j)))
   op-takes o nil n (named c x s) h p l j d =
       let (word, names, first, asks) = operator-writes (src_word (c x)) (naming c) s.0 x in

@@ -76,6 +76,8 @@ digits_long (suc k) n c w p h =
 
 long-number : (w : Bytes) → Long w → all is_digit w ≡ true → length w ≤ 8 → decimal 0 w ≤ top → is_number w ≡ true
 unfolding is_number
+long-number [] x h l t = elim x [ ]
+long-number (b ∷ []) x h l t = elim x [ ]
 long-number (b ∷ c ∷ w) (long e) h l t =
     both₂ (both₂ (both₂ h (rw e)) (le-leb (length w) 6 (omega arith))) (le-leb (decimal 0 (b ∷ c ∷ w)) top t)
 
