@@ -4,8 +4,8 @@ use Rattle.atlite_calls.specs.Numbers.{laws}
 use Rattle.atlite_calls.proofs.atlite_list.Statement.{statement}
 use Rattle.atlite_calls.proofs.atlite_list.Tie as tie
 
-pub atlite-list-spec : {M : Type 1} → statement M
-atlite-list-spec =
+pub atlite_list_spec : {M : Type 1} → statement M
+atlite_list_spec =
     tie.close
     (tie.spec
     (λ c κs. search rules)  -- list-requires

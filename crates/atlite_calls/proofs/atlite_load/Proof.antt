@@ -4,8 +4,8 @@ use Rattle.atlite_calls.specs.Numbers.{laws}
 use Rattle.atlite_calls.proofs.atlite_load.Statement.{statement}
 use Rattle.atlite_calls.proofs.atlite_load.Tie as tie
 
-pub atlite-load-spec : {M : Type 1} → statement M
-atlite-load-spec =
+pub atlite_load_spec : {M : Type 1} → statement M
+atlite_load_spec =
     tie.close
     (tie.spec
     (λ c κs. search rules)  -- load-requires

@@ -4,8 +4,8 @@ use Rattle.atlite_calls.specs.Numbers.{laws}
 use Rattle.atlite_calls.proofs.atlite_move.Statement.{statement}
 use Rattle.atlite_calls.proofs.atlite_move.Tie as tie
 
-pub atlite-move-spec : {M : Type 1} → statement M
-atlite-move-spec =
+pub atlite_move_spec : {M : Type 1} → statement M
+atlite_move_spec =
     tie.close
     (tie.spec
     (λ c κs. search rules)  -- move-actor-requires

@@ -4,8 +4,8 @@ use Rattle.atlite_calls.specs.Numbers.{laws}
 use Rattle.atlite_calls.proofs.atlite_print.Statement.{statement}
 use Rattle.atlite_calls.proofs.atlite_print.Tie as tie
 
-pub atlite-print-spec : {M : Type 1} → statement M
-atlite-print-spec =
+pub atlite_print_spec : {M : Type 1} → statement M
+atlite_print_spec =
     tie.close
     (tie.spec
     (λ c κs. search rules)  -- print-requires

@@ -4,8 +4,8 @@ use Rattle.atlite_calls.specs.Numbers.{laws}
 use Rattle.atlite_calls.proofs.atlite_read.Statement.{statement}
 use Rattle.atlite_calls.proofs.atlite_read.Tie as tie
 
-pub atlite-read-spec : {M : Type 1} → statement M
-atlite-read-spec =
+pub atlite_read_spec : {M : Type 1} → statement M
+atlite_read_spec =
     tie.close
     (tie.spec
     (λ c κs. search rules)  -- read-requires

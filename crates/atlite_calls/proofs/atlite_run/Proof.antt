@@ -4,8 +4,8 @@ use Rattle.atlite_calls.specs.Numbers.{laws}
 use Rattle.atlite_calls.proofs.atlite_run.Statement.{statement}
 use Rattle.atlite_calls.proofs.atlite_run.Tie as tie
 
-pub atlite-run-spec : {M : Type 1} → statement M
-atlite-run-spec =
+pub atlite_run_spec : {M : Type 1} → statement M
+atlite_run_spec =
     tie.close
     (tie.spec
     (λ c κs. search rules)  -- run-requires

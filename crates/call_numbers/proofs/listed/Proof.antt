@@ -5,9 +5,9 @@ use Rattle.promises.specs.CallNumbers.{cause, place, itself}
 use Rattle.call_numbers.proofs.listed.Statement.{statement}
 use Rattle.call_numbers.proofs.listed.Tie as tie
 
-pub listed-spec : {M : Type 1} → statement M
+pub listed_spec : {M : Type 1} → statement M
 unfolding list_answer cause place itself
-listed-spec =
+listed_spec =
     tie.close
     (tie.spec
     (λ c. search rules)  -- enum-known-listed

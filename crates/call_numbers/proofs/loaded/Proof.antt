@@ -5,9 +5,9 @@ use Rattle.promises.specs.CallNumbers.{cause}
 use Rattle.call_numbers.proofs.loaded.Statement.{statement}
 use Rattle.call_numbers.proofs.loaded.Tie as tie
 
-pub loaded-spec : {M : Type 1} → statement M
+pub loaded_spec : {M : Type 1} → statement M
 unfolding load_answer cause
-loaded-spec =
+loaded_spec =
     tie.close
     (tie.spec
     (λ c. search rules)  -- enum-told

@@ -5,9 +5,9 @@ use Rattle.promises.specs.CallNumbers.{cause, place, kind_of, other_of}
 use Rattle.call_numbers.proofs.moved.Statement.{statement}
 use Rattle.call_numbers.proofs.moved.Tie as tie
 
-pub moved-spec : {M : Type 1} → statement M
+pub moved_spec : {M : Type 1} → statement M
 unfolding move_answer cause place kind_of other_of
-moved-spec =
+moved_spec =
     tie.close
     (tie.spec
     (λ c. search rules)  -- enum-told

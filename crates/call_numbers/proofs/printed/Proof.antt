@@ -5,9 +5,9 @@ use Rattle.promises.specs.CallNumbers.{cause, place, itself}
 use Rattle.call_numbers.proofs.printed.Statement.{statement}
 use Rattle.call_numbers.proofs.printed.Tie as tie
 
-pub printed-spec : {M : Type 1} → statement M
+pub printed_spec : {M : Type 1} → statement M
 unfolding print_answer cause place itself
-printed-spec =
+printed_spec =
     tie.close
     (tie.spec
     (λ c. search rules)  -- enum-known-printed

@@ -5,9 +5,9 @@ use Rattle.promises.specs.CallNumbers.{cause, place, moves_of, refusals_of}
 use Rattle.call_numbers.proofs.ran.Statement.{statement}
 use Rattle.call_numbers.proofs.ran.Tie as tie
 
-pub ran-spec : {M : Type 1} → statement M
+pub ran_spec : {M : Type 1} → statement M
 unfolding run_answer cause place moves_of refusals_of
-ran-spec =
+ran_spec =
     tie.close
     (tie.spec
     (λ c. search rules)  -- enum-known-made

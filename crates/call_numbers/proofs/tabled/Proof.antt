@@ -5,9 +5,9 @@ use Rattle.promises.specs.CallNumbers.{cause}
 use Rattle.call_numbers.proofs.tabled.Statement.{statement}
 use Rattle.call_numbers.proofs.tabled.Tie as tie
 
-pub tabled-spec : {M : Type 1} → statement M
+pub tabled_spec : {M : Type 1} → statement M
 unfolding read_answer cause
-tabled-spec =
+tabled_spec =
     tie.close
     (tie.spec
     (λ c. search rules)  -- enum-told

@@ -12,8 +12,8 @@ invariant-loop t at i₀ i = Still (zero_from t at) (zero_from t i) × (i ≤ le
 abbrev decreases-loop : tie.decreases-loop
 decreases-loop t at i₀ i = length t - i
 
-pub ends-spec : {M : Type 1} → statement M
-ends-spec =
+pub ends_spec : {M : Type 1} → statement M
+ends_spec =
     tie.close
     (tie.spec
     invariant-loop

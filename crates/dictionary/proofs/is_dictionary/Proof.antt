@@ -12,8 +12,8 @@ invariant-loop w at n i₀ left₀ i left = Still (entries_hold w at n) (entries
 abbrev decreases-loop : tie.decreases-loop
 decreases-loop w at n i₀ left₀ i left = left
 
-pub is-dictionary-spec : {M : Type 1} → statement M
-is-dictionary-spec =
+pub is_dictionary_spec : {M : Type 1} → statement M
+is_dictionary_spec =
     tie.close
     (tie.spec
     invariant-loop

@@ -3,8 +3,8 @@ use Rattle.dictionary.specs.EntryLaws.{laws}
 use Rattle.dictionary.proofs.is_first.Statement.{statement}
 use Rattle.dictionary.proofs.is_first.Tie as tie
 
-pub is-first-spec : {M : Type 1} → statement M
-is-first-spec =
+pub is_first_spec : {M : Type 1} → statement M
+is_first_spec =
     tie.close
     (tie.spec
     (λ c. search laws)  -- mul-is-entry

@@ -3,8 +3,8 @@ use Rattle.dictionary.specs.EntryLaws.{laws}
 use Rattle.dictionary.proofs.is_own.Statement.{statement}
 use Rattle.dictionary.proofs.is_own.Tie as tie
 
-pub is-own-spec : {M : Type 1} → statement M
-is-own-spec =
+pub is_own_spec : {M : Type 1} → statement M
+is_own_spec =
     tie.close
     (tie.spec
     (λ c κs. search laws)  -- run-end-requires

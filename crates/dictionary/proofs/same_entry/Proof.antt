@@ -3,8 +3,8 @@ use Rattle.dictionary.specs.EntryLaws.{laws}
 use Rattle.dictionary.proofs.same_entry.Statement.{statement}
 use Rattle.dictionary.proofs.same_entry.Tie as tie
 
-pub same-entry-spec : {M : Type 1} → statement M
-same-entry-spec = tie.close (tie.spec (λ c. search laws)  -- returns
+pub same_entry_spec : {M : Type 1} → statement M
+same_entry_spec = tie.close (tie.spec (λ c. search laws)  -- returns
     (λ c. search laws)  -- returns-2
     (λ c. search laws)  -- returns-3
     )

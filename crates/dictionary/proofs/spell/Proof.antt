@@ -3,8 +3,8 @@ use Rattle.dictionary.specs.EntryLaws.{laws}
 use Rattle.dictionary.proofs.spell.Statement.{statement}
 use Rattle.dictionary.proofs.spell.Tie as tie
 
-pub spell-spec : {M : Type 1} → statement M
-spell-spec =
+pub spell_spec : {M : Type 1} → statement M
+spell_spec =
     tie.close
     (tie.spec
     (λ c. search laws)  -- cast-t

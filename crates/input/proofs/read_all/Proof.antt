@@ -13,8 +13,8 @@ invariant-loop fd buffer₀ at₀ left₀ buffer at left = (at ≤ length buffer
 abbrev decreases-loop : tie.decreases-loop
 decreases-loop fd buffer₀ at₀ left₀ buffer at left = length buffer - at + left
 
-pub read-all-spec : {M : Type 1} → statement M
-read-all-spec =
+pub read_all_spec : {M : Type 1} → statement M
+read_all_spec =
     tie.close
     (tie.spec
     invariant-loop

@@ -4,8 +4,8 @@ use Rattle.input.specs.Within.{laws}
 use Rattle.input.proofs.read_file.Statement.{statement}
 use Rattle.input.proofs.read_file.Tie as tie
 
-pub read-file-spec : {M : Type 1} → statement M
-read-file-spec =
+pub read_file_spec : {M : Type 1} → statement M
+read_file_spec =
     tie.close
     (tie.spec
     (λ c κs. search rules)  -- open-read-requires

@@ -11,8 +11,8 @@ invariant-loop input i₀ i = Looking input i
 abbrev decreases-loop : tie.decreases-loop
 decreases-loop input i₀ i = length input - i
 
-pub first-line-spec : {M : Type 1} → statement M
-first-line-spec =
+pub first_line_spec : {M : Type 1} → statement M
+first_line_spec =
     tie.close
     (tie.spec
     invariant-loop

@@ -22,8 +22,8 @@ abbrev show-actors-below : ℕ → In 2 show-actors-kinds.ps
 show-actors-below t =
     and 2 show-actors-kinds.ps (falls 2 show-actors-kinds.ps ◌<◌ μ-show-actors t) show-actors.Pre
 
-pub +show-actors-spec : {M : Type 1} → statement M
-+show-actors-spec = close μ-show-actors λ t. show-actors-lts.spec (
+pub +show_actors_spec : {M : Type 1} → statement M
++show_actors_spec = close μ-show-actors λ t. show-actors-lts.spec (
   show-actor-reads.Asked,
   show-actor-reads.Learnt,
   show-actors-below t,

@@ -23,8 +23,8 @@ abbrev show-fields-below : ℕ → In 2 show-fields-kinds.ps
 show-fields-below t =
     and 2 show-fields-kinds.ps (falls 2 show-fields-kinds.ps ◌<◌ μ-show-fields t) show-fields.Pre
 
-pub +show-fields-spec : {M : Type 1} → statement M
-+show-fields-spec = close μ-show-fields λ t. show-fields-lts.spec (
+pub +show_fields_spec : {M : Type 1} → statement M
++show_fields_spec = close μ-show-fields λ t. show-fields-lts.spec (
   put_reads.Asked,
   put_reads.Learnt,
   show-form-reads.Asked,

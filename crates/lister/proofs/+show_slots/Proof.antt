@@ -22,8 +22,8 @@ abbrev show-slots-below : ℕ → In 2 show-slots-kinds.ps
 show-slots-below t =
     and 2 show-slots-kinds.ps (falls 2 show-slots-kinds.ps ◌<◌ μ-show-slots t) show-slots.Pre
 
-pub +show-slots-spec : {M : Type 1} → statement M
-+show-slots-spec = close μ-show-slots λ t. show-slots-lts.spec (
+pub +show_slots_spec : {M : Type 1} → statement M
++show_slots_spec = close μ-show-slots λ t. show-slots-lts.spec (
   show-slot-reads.Asked,
   show-slot-reads.Learnt,
   show-slots-below t,

@@ -4,8 +4,8 @@ use Rattle.lister.specs.ActorLaws.{list-whole}
 use Rattle.lister.proofs.list_all.Statement.{statement}
 use Rattle.lister.proofs.list_all.Tie as tie
 
-pub list-all-spec : {M : Type 1} → statement M
-list-all-spec =
+pub list_all_spec : {M : Type 1} → statement M
+list_all_spec =
     tie.close (tie.spec (λ c. search rules)  -- shared-slice-read-n
     (λ c. search rules)  -- cast-n
     (λ c κs. search rules)  -- show-actors-requires

@@ -3,8 +3,8 @@ use Rattle.lister.specs.ListContract.{laws}
 use Rattle.lister.proofs.list_words.Statement.{statement}
 use Rattle.lister.proofs.list_words.Tie as tie
 
-pub list-words-spec : {M : Type 1} → statement M
-list-words-spec =
+pub list_words_spec : {M : Type 1} → statement M
+list_words_spec =
     tie.close (tie.spec (λ c. search laws)  -- slice-aggregate-list-all
     (λ c κs. search laws)  -- list-all-requires
     (λ c. search laws)  -- same-length

@@ -4,8 +4,8 @@ use Rattle.lister.specs.SlotLaws.{laws}
 use Rattle.lister.proofs.put_end.Statement.{statement}
 use Rattle.lister.proofs.put_end.Tie as tie
 
-pub put-end-spec : {M : Type 1} → statement M
-put-end-spec = tie.close (tie.spec (λ c κs. search rules)  -- put-requires
+pub put_end_spec : {M : Type 1} → statement M
+put_end_spec = tie.close (tie.spec (λ c κs. search rules)  -- put-requires
     (λ c κs. search rules)  -- put-requires-2
     (λ c. search rules)  -- same-length
     (λ c. search laws)  -- returns

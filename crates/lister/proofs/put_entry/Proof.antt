@@ -4,8 +4,8 @@ use Rattle.lister.specs.SlotLaws.{laws}
 use Rattle.lister.proofs.put_entry.Statement.{statement}
 use Rattle.lister.proofs.put_entry.Tie as tie
 
-pub put-entry-spec : {M : Type 1} → statement M
-put-entry-spec = tie.close (tie.spec (λ c κs. search rules)  -- put-kind-requires
+pub put_entry_spec : {M : Type 1} → statement M
+put_entry_spec = tie.close (tie.spec (λ c κs. search rules)  -- put-kind-requires
     (λ c κs. search rules)  -- put-number-requires
     (λ c. search rules)  -- same-length
     (λ c. search laws)  -- returns

@@ -6,9 +6,9 @@ use Rattle.lister.specs.SlotLaws.{kinds}
 use Rattle.lister.proofs.put_kind.Statement.{statement}
 use Rattle.lister.proofs.put_kind.Tie as tie
 
-pub put-kind-spec : {M : Type 1} → statement M
+pub put_kind_spec : {M : Type 1} → statement M
 unfolding kind_in bytes
-put-kind-spec =
+put_kind_spec =
     tie.close
     (tie.spec
     (λ c. search rules)  -- slice-aggregate-put-bytes

@@ -4,8 +4,8 @@ use Rattle.lister.specs.SlotLaws.{opening-whole}
 use Rattle.lister.proofs.put_opening.Statement.{statement}
 use Rattle.lister.proofs.put_opening.Tie as tie
 
-pub put-opening-spec : {M : Type 1} → statement M
-put-opening-spec =
+pub put_opening_spec : {M : Type 1} → statement M
+put_opening_spec =
     tie.close
     (tie.spec
     (λ c κs. search rules)  -- put-entry-requires

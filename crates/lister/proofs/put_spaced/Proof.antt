@@ -4,8 +4,8 @@ use Rattle.lister.specs.ActorLaws.{laws}
 use Rattle.lister.proofs.put_spaced.Statement.{statement}
 use Rattle.lister.proofs.put_spaced.Tie as tie
 
-pub put-spaced-spec : {M : Type 1} → statement M
-put-spaced-spec = tie.close (tie.spec (λ c κs. search rules)  -- put-requires
+pub put_spaced_spec : {M : Type 1} → statement M
+put_spaced_spec = tie.close (tie.spec (λ c κs. search rules)  -- put-requires
     (λ c κs. search rules)  -- put-number-requires
     (λ c. search rules)  -- same-length
     (λ c. search laws)  -- returns

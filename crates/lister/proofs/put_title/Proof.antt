@@ -4,8 +4,8 @@ use Rattle.lister.specs.ActorLaws.{laws}
 use Rattle.lister.proofs.put_title.Statement.{statement}
 use Rattle.lister.proofs.put_title.Tie as tie
 
-pub put-title-spec : {M : Type 1} → statement M
-put-title-spec =
+pub put_title_spec : {M : Type 1} → statement M
+put_title_spec =
     tie.close
     (tie.spec (λ c. search rules)  -- slice-aggregate-put-bytes
     (λ c κs. search rules)  -- put-bytes-requires

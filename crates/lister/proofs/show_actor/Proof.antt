@@ -4,8 +4,8 @@ use Rattle.lister.specs.ActorLaws.{actor-whole}
 use Rattle.lister.proofs.show_actor.Statement.{statement}
 use Rattle.lister.proofs.show_actor.Tie as tie
 
-pub show-actor-spec : {M : Type 1} → statement M
-show-actor-spec =
+pub show_actor_spec : {M : Type 1} → statement M
+show_actor_spec =
     tie.close
     (tie.spec
     (λ c. search rules)  -- add-n

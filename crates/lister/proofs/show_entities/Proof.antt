@@ -4,8 +4,8 @@ use Rattle.lister.specs.ActorLaws.{entities-whole}
 use Rattle.lister.proofs.show_entities.Statement.{statement}
 use Rattle.lister.proofs.show_entities.Tie as tie
 
-pub show-entities-spec : {M : Type 1} → statement M
-show-entities-spec =
+pub show_entities_spec : {M : Type 1} → statement M
+show_entities_spec =
     tie.close
     (tie.spec
     (λ c. search rules)  -- add-n

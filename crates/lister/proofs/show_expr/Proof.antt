@@ -4,8 +4,8 @@ use Rattle.lister.specs.ActorLaws.{laws}
 use Rattle.lister.proofs.show_expr.Statement.{statement}
 use Rattle.lister.proofs.show_expr.Tie as tie
 
-pub show-expr-spec : {M : Type 1} → statement M
-show-expr-spec =
+pub show_expr_spec : {M : Type 1} → statement M
+show_expr_spec =
     tie.close (tie.spec (λ c κs. search rules)  -- put-requires
     (λ c κs. search rules)  -- show-requires
     (λ c κs. search rules)  -- put-end-requires

@@ -4,8 +4,8 @@ use Rattle.lister.specs.ActorLaws.{laws}
 use Rattle.lister.proofs.show_line.Statement.{statement}
 use Rattle.lister.proofs.show_line.Tie as tie
 
-pub show-line-spec : {M : Type 1} → statement M
-show-line-spec =
+pub show_line_spec : {M : Type 1} → statement M
+show_line_spec =
     tie.close
     (tie.spec
     (λ c κs. search rules)  -- put-title-requires

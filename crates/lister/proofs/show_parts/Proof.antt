@@ -4,8 +4,8 @@ use Rattle.lister.specs.SlotLaws.{parts_whole}
 use Rattle.lister.proofs.show_parts.Statement.{statement}
 use Rattle.lister.proofs.show_parts.Tie as tie
 
-pub show-parts-spec : {M : Type 1} → statement M
-show-parts-spec =
+pub show_parts_spec : {M : Type 1} → statement M
+show_parts_spec =
     tie.close
     (tie.spec
     (λ c. search rules)  -- cast-show-fields

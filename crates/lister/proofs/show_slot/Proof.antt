@@ -4,8 +4,8 @@ use Rattle.lister.specs.SlotLaws.{slot_whole}
 use Rattle.lister.proofs.show_slot.Statement.{statement}
 use Rattle.lister.proofs.show_slot.Tie as tie
 
-pub show-slot-spec : {M : Type 1} → statement M
-show-slot-spec =
+pub show_slot_spec : {M : Type 1} → statement M
+show_slot_spec =
     tie.close
     (tie.spec
     (λ c. search rules)  -- mul-put-opening

@@ -4,8 +4,8 @@ use Rattle.loading.specs.LoadLaws.{long-laws, large-laws, small-laws}
 use Rattle.loading.proofs.load_table.Statement.{statement}
 use Rattle.loading.proofs.load_table.Tie as tie
 
-pub load-table-spec : {M : Type 1} → statement M
-load-table-spec =
+pub load_table_spec : {M : Type 1} → statement M
+load_table_spec =
     tie.close
     (tie.spec
     (λ c. search rules)  -- shared-slice-read-wide

@@ -4,8 +4,8 @@ use Rattle.loading.specs.LoadLaws.{published-laws}
 use Rattle.loading.proofs.load_words.Statement.{statement}
 use Rattle.loading.proofs.load_words.Tie as tie
 
-pub load-words-spec : {M : Type 1} → statement M
-load-words-spec =
+pub load_words_spec : {M : Type 1} → statement M
+load_words_spec =
     tie.close
     (tie.spec
     (λ c. search published-laws)  -- slice-aggregate-t

@@ -4,8 +4,8 @@ use lib.Seq.{length-take-le}
 use Rattle.loops.proofs.answer.Statement.{statement}
 use Rattle.loops.proofs.answer.Tie as tie
 
-pub answer-spec : {M : Type 1} → statement M
-answer-spec =
+pub answer_spec : {M : Type 1} → statement M
+answer_spec =
     tie.close
     (tie.spec
     (λ c κs. search rules)  -- large-buffer-requires

@@ -4,8 +4,8 @@ use Rattle.printer.specs.Names.{laws}
 use Rattle.printer.proofs.names_hold.Statement.{statement}
 use Rattle.printer.proofs.names_hold.Tie as tie
 
-pub names-hold-spec : {M : Type 1} → statement M
-names-hold-spec =
+pub names_hold_spec : {M : Type 1} → statement M
+names_hold_spec =
     tie.close
     (tie.spec
     (λ c. search rules)  -- shared-slice-read-k

@@ -5,8 +5,8 @@ use Rattle.printer.specs.PrintLaws.{laws}
 use Rattle.printer.proofs.print_words.Statement.{statement}
 use Rattle.printer.proofs.print_words.Tie as tie
 
-pub print-words-spec : {M : Type 1} → statement M
-print-words-spec =
+pub print_words_spec : {M : Type 1} → statement M
+print_words_spec =
     tie.close
     (tie.spec
     (λ c κs. search rules)  -- size-requires

@@ -13,8 +13,8 @@ invariant-loop text low₀ high₀ s₀ at₀ low high s at = Scanning text at l
 abbrev decreases-loop : tie.decreases-loop
 decreases-loop text low₀ high₀ s₀ at₀ low high s at = length text - at
 
-pub runs-spec : {M : Type 1} → statement M
-runs-spec =
+pub runs_spec : {M : Type 1} → statement M
+runs_spec =
     tie.close
     (tie.spec
     invariant-loop

@@ -56,8 +56,8 @@ show-operands-below t =
     (falls 2 show-operands-kinds.ps ◌<◌ μ-show-operands t)
     show-operands.Pre
 
-pub +show-show-form-show-operands-spec : {M : Type 1} → statement M
-+show-show-form-show-operands-spec = close μ-show μ-show-form μ-show-operands (λ t. show-lts.spec (
+pub +show_show_form_show_operands_spec : {M : Type 1} → statement M
++show_show_form_show_operands_spec = close μ-show μ-show-form μ-show-operands (λ t. show-lts.spec (
   put-leaf-reads.Asked,
   put-leaf-reads.Learnt,
   show-form-below t,

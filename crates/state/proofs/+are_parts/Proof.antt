@@ -20,8 +20,8 @@ abbrev are-parts-below : ℕ → In 2 are-parts-kinds.ps
 are-parts-below t =
     and 2 are-parts-kinds.ps (falls 2 are-parts-kinds.ps ◌<◌ μ-are-parts t) are-parts.Pre
 
-pub +are-parts-spec : {M : Type 1} → statement M
-+are-parts-spec = close μ-are-parts λ t. are-parts-lts.spec (
+pub +are_parts_spec : {M : Type 1} → statement M
++are_parts_spec = close μ-are-parts λ t. are-parts-lts.spec (
   is-actor-reads.Asked,
   is-actor-reads.Learnt,
   are-parts-below t,

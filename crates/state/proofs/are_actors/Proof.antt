@@ -3,8 +3,8 @@ use Rattle.state.specs.TestLaws.{laws}
 use Rattle.state.proofs.are_actors.Statement.{statement}
 use Rattle.state.proofs.are_actors.Tie as tie
 
-pub are-actors-spec : {M : Type 1} → statement M
-are-actors-spec =
+pub are_actors_spec : {M : Type 1} → statement M
+are_actors_spec =
     tie.close
     (tie.spec
     (λ c. search laws)  -- shared-slice-read-wide

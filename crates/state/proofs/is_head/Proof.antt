@@ -3,8 +3,8 @@ use Rattle.state.specs.TestLaws.{laws}
 use Rattle.state.proofs.is_head.Statement.{statement}
 use Rattle.state.proofs.is_head.Tie as tie
 
-pub is-head-spec : {M : Type 1} → statement M
-is-head-spec =
+pub is_head_spec : {M : Type 1} → statement M
+is_head_spec =
     tie.close
     (tie.spec
     (λ c. search laws)  -- shared-slice-read-wide

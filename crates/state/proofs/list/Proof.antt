@@ -8,5 +8,5 @@ returns : tie.Need-returns
 unfolding ListsCall
 returns c = search rules
 
-pub list-spec : {M : Type 1} → statement M
-list-spec = tie.close (tie.spec (λ c κs. search rules) (λ c. search rules) returns)
+pub list_spec : {M : Type 1} → statement M
+list_spec = tie.close (tie.spec (λ c κs. search rules) (λ c. search rules) returns)

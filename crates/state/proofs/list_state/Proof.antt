@@ -3,8 +3,8 @@ use Rattle.state.specs.ListCall.{laws}
 use Rattle.state.proofs.list_state.Statement.{statement}
 use Rattle.state.proofs.list_state.Tie as tie
 
-pub list-state-spec : {M : Type 1} → statement M
-list-state-spec =
+pub list_state_spec : {M : Type 1} → statement M
+list_state_spec =
     tie.close (tie.spec (λ c κs. search laws)  -- measure-requires
     (λ c. search laws)  -- returns
     (λ c κs. search laws)  -- list-words-requires

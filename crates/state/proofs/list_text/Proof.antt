@@ -3,8 +3,8 @@ use Rattle.state.specs.ListCall.{laws}
 use Rattle.state.proofs.list_text.Statement.{statement}
 use Rattle.state.proofs.list_text.Tie as tie
 
-pub list-text-spec : {M : Type 1} → statement M
-list-text-spec =
+pub list_text_spec : {M : Type 1} → statement M
+list_text_spec =
     tie.close
     (tie.spec (λ c. search laws)  -- returns
     (λ c κs. search laws)  -- is-state-requires

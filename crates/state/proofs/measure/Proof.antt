@@ -3,8 +3,8 @@ use Rattle.state.specs.ListCall.{laws}
 use Rattle.state.proofs.measure.Statement.{statement}
 use Rattle.state.proofs.measure.Tie as tie
 
-pub measure-spec : {M : Type 1} → statement M
-measure-spec = tie.close (tie.spec (λ c. search laws)  -- slice-aggregate-list-words
+pub measure_spec : {M : Type 1} → statement M
+measure_spec = tie.close (tie.spec (λ c. search laws)  -- slice-aggregate-list-words
     (λ c κs. search laws)  -- list-words-requires
     (λ c. search laws)  -- returns
     )

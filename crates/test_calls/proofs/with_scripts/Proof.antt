@@ -4,8 +4,8 @@ use Rattle.input.specs.Within.{counted}
 use Rattle.test_calls.proofs.with_scripts.Statement.{statement}
 use Rattle.test_calls.proofs.with_scripts.Tie as tie
 
-pub with-scripts-spec : {M : Type 1} → statement M
-with-scripts-spec =
+pub with_scripts_spec : {M : Type 1} → statement M
+with_scripts_spec =
     tie.close
     (tie.spec
     (λ c κs. search rules)  -- buffer-requires

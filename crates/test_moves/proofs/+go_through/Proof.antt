@@ -27,8 +27,8 @@ abbrev go-through-below : ℕ → In 3 go-through-kinds.ps
 go-through-below t =
     and 3 go-through-kinds.ps (falls 3 go-through-kinds.ps ◌<◌ μ-go-through t) go-through.Pre
 
-pub +go-through-spec : {M : Type 1} → statement M
-+go-through-spec = close μ-go-through λ t. go-through-lts.spec (
+pub +go_through_spec : {M : Type 1} → statement M
++go_through_spec = close μ-go-through λ t. go-through-lts.spec (
   cut-short-reads.Asked,
   cut-short-reads.Learnt,
   agrees-reads.Asked,

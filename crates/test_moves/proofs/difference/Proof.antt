@@ -10,8 +10,8 @@ invariant-loop a b i₀ i = i ≤ 16384
 abbrev decreases-loop : tie.decreases-loop
 decreases-loop a b i₀ i = 16384 - i
 
-pub difference-spec : {M : Type 1} → statement M
-difference-spec =
+pub difference_spec : {M : Type 1} → statement M
+difference_spec =
     tie.close
     (tie.spec
     invariant-loop

@@ -4,8 +4,8 @@ use Rattle.input.specs.Within.{counted}
 use Rattle.test_moves.proofs.group.Statement.{statement}
 use Rattle.test_moves.proofs.group.Tie as tie
 
-pub group-spec : {M : Type 1} → statement M
-group-spec =
+pub group_spec : {M : Type 1} → statement M
+group_spec =
     tie.close
     (tie.spec
     (λ c κs. search rules)  -- large-buffer-requires

@@ -4,8 +4,8 @@ use lib.Seq.{length-take-le}
 use Rattle.test_reprint.proofs.print_table.Statement.{statement}
 use Rattle.test_reprint.proofs.print_table.Tie as tie
 
-pub print-table-spec : {M : Type 1} → statement M
-print-table-spec =
+pub print_table_spec : {M : Type 1} → statement M
+print_table_spec =
     tie.close
     (tie.spec
     (λ c κs. search rules)  -- buffer-requires 27:20

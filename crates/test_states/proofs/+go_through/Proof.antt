@@ -23,8 +23,8 @@ abbrev go-through-below : ℕ → In 2 go-through-kinds.ps
 go-through-below t =
     and 2 go-through-kinds.ps (falls 2 go-through-kinds.ps ◌<◌ μ-go-through t) go-through.Pre
 
-pub +go-through-spec : {M : Type 1} → statement M
-+go-through-spec = close μ-go-through λ t. go-through-lts.spec (
+pub +go_through_spec : {M : Type 1} → statement M
++go_through_spec = close μ-go-through λ t. go-through-lts.spec (
   follow-reads.Asked,
   follow-reads.Learnt,
   go-through-below t,

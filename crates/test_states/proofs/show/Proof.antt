@@ -4,8 +4,8 @@ use lib.Seq.{length-take-le}
 use Rattle.test_states.proofs.show.Statement.{statement}
 use Rattle.test_states.proofs.show.Tie as tie
 
-pub show-spec : {M : Type 1} → statement M
-show-spec =
+pub show_spec : {M : Type 1} → statement M
+show_spec =
     tie.close
     (tie.spec
     (λ c κs. search rules)  -- large-buffer-requires 63:20

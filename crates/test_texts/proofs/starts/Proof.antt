@@ -4,8 +4,8 @@ use lib.Seq.{length-take-le}
 use Rattle.test_texts.proofs.starts.Statement.{statement}
 use Rattle.test_texts.proofs.starts.Tie as tie
 
-pub starts-spec : {M : Type 1} → statement M
-starts-spec = tie.close (tie.spec (λ c. search rules)  -- returns 45:9
+pub starts_spec : {M : Type 1} → statement M
+starts_spec = tie.close (tie.spec (λ c. search rules)  -- returns 45:9
     (λ c. search (rules, length-take-le))  -- slice-aggregate-same 47:17
     (λ c κs. search rules)  -- same-requires 47:5
     (λ c. search rules)  -- returns-2 43:1

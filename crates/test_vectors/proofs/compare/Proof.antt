@@ -4,8 +4,8 @@ use lib.Seq.{length-take-le}
 use Rattle.test_vectors.proofs.compare.Statement.{statement}
 use Rattle.test_vectors.proofs.compare.Tie as tie
 
-pub compare-spec : {M : Type 1} → statement M
-compare-spec =
+pub compare_spec : {M : Type 1} → statement M
+compare_spec =
     tie.close
     (tie.spec
     (λ c. search rules)  -- returns

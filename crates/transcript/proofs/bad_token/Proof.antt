@@ -3,8 +3,8 @@ use Rattle.transcript.specs.Output.{laws}
 use Rattle.transcript.proofs.bad_token.Statement.{statement}
 use Rattle.transcript.proofs.bad_token.Tie as tie
 
-pub bad-token-spec : {M : Type 1} → statement M
-bad-token-spec =
+pub bad_token_spec : {M : Type 1} → statement M
+bad_token_spec =
     tie.close (tie.spec (λ c. search laws)  -- slice-aggregate-put-bytes
     (λ c κs. search laws)  -- put-bytes-requires
     (λ c. search laws)  -- same-length

@@ -3,8 +3,8 @@ use Rattle.transcript.specs.Output.{laws}
 use Rattle.transcript.proofs.put_head.Statement.{statement}
 use Rattle.transcript.proofs.put_head.Tie as tie
 
-pub put-head-spec : {M : Type 1} → statement M
-put-head-spec = tie.close (tie.spec (λ c κs. search laws)  -- put-bytes-requires
+pub put_head_spec : {M : Type 1} → statement M
+put_head_spec = tie.close (tie.spec (λ c κs. search laws)  -- put-bytes-requires
     (λ c. search laws)  -- add-result
     (λ c. search laws)  -- same-length
     (λ c. search laws)  -- returns

@@ -3,8 +3,8 @@ use Rattle.transcript.specs.Output.{laws}
 use Rattle.transcript.proofs.refuse.Statement.{statement}
 use Rattle.transcript.proofs.refuse.Tie as tie
 
-pub refuse-spec : {M : Type 1} → statement M
-refuse-spec =
+pub refuse_spec : {M : Type 1} → statement M
+refuse_spec =
     tie.close
     (tie.spec
     (λ c κs. search laws)  -- wide-requires

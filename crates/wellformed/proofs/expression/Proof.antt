@@ -3,7 +3,7 @@ use Rattle.wellformed.specs.LiteralLaws.{laws}
 use Rattle.wellformed.proofs.expression.Statement.{statement}
 use Rattle.wellformed.proofs.expression.Tie as tie
 
-pub expression-spec : {M : Type 1} → statement M
-expression-spec = tie.close (tie.spec (λ c κs. search laws)  -- term-requires
+pub expression_spec : {M : Type 1} → statement M
+expression_spec = tie.close (tie.spec (λ c κs. search laws)  -- term-requires
     (λ c. search laws)  -- returns
     )

@@ -3,8 +3,8 @@ use Rattle.term_words.specs.WordLaws.{message-laws}
 use Rattle.wellformed.proofs.message_name.Statement.{statement}
 use Rattle.wellformed.proofs.message_name.Tie as tie
 
-pub message-name-spec : {M : Type 1} → statement M
-message-name-spec =
+pub message_name_spec : {M : Type 1} → statement M
+message_name_spec =
     tie.close
     (tie.spec
     (λ c κs. search message-laws)  -- named-requires

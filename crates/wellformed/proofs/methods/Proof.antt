@@ -3,8 +3,8 @@ use Rattle.wellformed.specs.LiteralLaws.{laws}
 use Rattle.wellformed.proofs.methods.Statement.{statement}
 use Rattle.wellformed.proofs.methods.Tie as tie
 
-pub methods-spec : {M : Type 1} → statement M
-methods-spec = tie.close (tie.spec (λ c. search laws)  -- returns
+pub methods_spec : {M : Type 1} → statement M
+methods_spec = tie.close (tie.spec (λ c. search laws)  -- returns
     (λ c. search laws)  -- returns-2
     (λ c. search laws)  -- array-write-scope
     (λ c κs. search laws)  -- methods-from-requires

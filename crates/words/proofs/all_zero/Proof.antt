@@ -13,8 +13,8 @@ invariant-loop w x₀ i₀ x i = Same (take i w) (take i (zeros (length w))) (eq
 abbrev decreases-loop : tie.decreases-loop
 decreases-loop w x₀ i₀ x i = length w - i
 
-pub all-zero-spec : {M : Type 1} → statement M
-all-zero-spec =
+pub all_zero_spec : {M : Type 1} → statement M
+all_zero_spec =
     tie.close
     (tie.spec
     invariant-loop

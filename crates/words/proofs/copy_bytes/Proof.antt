@@ -12,8 +12,8 @@ invariant-loop from n to₀ i₀ to i = Copied from i to₀ to × (i ≤ n) × (
 abbrev decreases-loop : tie.decreases-loop
 decreases-loop from n to₀ i₀ to i = n - i
 
-pub copy-bytes-spec : {M : Type 1} → statement M
-copy-bytes-spec =
+pub copy_bytes_spec : {M : Type 1} → statement M
+copy_bytes_spec =
     tie.close
     (tie.spec
     invariant-loop

@@ -3,6 +3,6 @@ use Rattle.words.specs.Runs.{laws}
 use Rattle.words.proofs.gathered.Statement.{statement}
 use Rattle.words.proofs.gathered.Tie as tie
 
-pub gathered-spec : {M : Type 1} → statement M
-gathered-spec = tie.close (tie.spec (λ c. search laws)  -- returns
+pub gathered_spec : {M : Type 1} → statement M
+gathered_spec = tie.close (tie.spec (λ c. search laws)  -- returns
     )

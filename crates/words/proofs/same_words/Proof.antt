@@ -11,8 +11,8 @@ invariant-loop a b n same₀ i₀ same i = Same (take i a) (take i b) same × (i
 abbrev decreases-loop : tie.decreases-loop
 decreases-loop a b n same₀ i₀ same i = n - i
 
-pub same-words-spec : {M : Type 1} → statement M
-same-words-spec =
+pub same_words_spec : {M : Type 1} → statement M
+same_words_spec =
     tie.close
     (tie.spec
     invariant-loop

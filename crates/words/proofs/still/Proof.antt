@@ -3,7 +3,7 @@ use Rattle.words.specs.Runs.{laws}
 use Rattle.words.proofs.still.Statement.{statement}
 use Rattle.words.proofs.still.Tie as tie
 
-pub still-spec : {M : Type 1} → statement M
-still-spec = tie.close (tie.spec (λ c. search laws)  -- returns
+pub still_spec : {M : Type 1} → statement M
+still_spec = tie.close (tie.spec (λ c. search laws)  -- returns
     (λ c. search laws)  -- returns-2
     )

@@ -19,8 +19,8 @@ inbox-at t = and 2 inbox-kinds.ps (is 2 inbox-kinds.ps μ-inbox t) inbox.Pre
 abbrev inbox-below : ℕ → In 2 inbox-kinds.ps
 inbox-below t = and 2 inbox-kinds.ps (falls 2 inbox-kinds.ps ◌<◌ μ-inbox t) inbox.Pre
 
-pub +inbox-spec : {M : Type 1} → statement M
-+inbox-spec = close μ-inbox λ t. inbox-lts.spec (
+pub +inbox_spec : {M : Type 1} → statement M
++inbox_spec = close μ-inbox λ t. inbox-lts.spec (
   arrived-reads.Asked,
   arrived-reads.Learnt,
   inbox-below t,

@@ -19,8 +19,8 @@ waiting-at t = and 2 waiting-kinds.ps (is 2 waiting-kinds.ps μ-waiting t) waiti
 abbrev waiting-below : ℕ → In 2 waiting-kinds.ps
 waiting-below t = and 2 waiting-kinds.ps (falls 2 waiting-kinds.ps ◌<◌ μ-waiting t) waiting.Pre
 
-pub +waiting-spec : {M : Type 1} → statement M
-+waiting-spec = close μ-waiting λ t. waiting-lts.spec (
+pub +waiting_spec : {M : Type 1} → statement M
++waiting_spec = close μ-waiting λ t. waiting-lts.spec (
   waits-reads.Asked,
   waits-reads.Learnt,
   waiting-below t,

@@ -3,8 +3,8 @@ use Rattle.actor.specs.MessageLaws.{arrived-laws}
 use Rattle.actor.proofs.messages.arrived.Statement.{statement}
 use Rattle.actor.proofs.messages.arrived.Tie as tie
 
-pub arrived-spec : {M : Type 1} → statement M
-arrived-spec =
+pub arrived_spec : {M : Type 1} → statement M
+arrived_spec =
     tie.close
     (tie.spec
     (λ c. search arrived-laws)  -- add-x

@@ -3,8 +3,8 @@ use Rattle.actor.specs.MessageLaws.{sent-laws}
 use Rattle.actor.proofs.messages.sent.Statement.{statement}
 use Rattle.actor.proofs.messages.sent.Tie as tie
 
-pub sent-spec : {M : Type 1} → statement M
-sent-spec =
+pub sent_spec : {M : Type 1} → statement M
+sent_spec =
     tie.close
     (tie.spec
     (λ c. search sent-laws)  -- mul-x

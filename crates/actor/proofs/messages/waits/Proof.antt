@@ -3,8 +3,8 @@ use Rattle.actor.specs.MessageLaws.{waits-laws}
 use Rattle.actor.proofs.messages.waits.Statement.{statement}
 use Rattle.actor.proofs.messages.waits.Tie as tie
 
-pub waits-spec : {M : Type 1} → statement M
-waits-spec =
+pub waits_spec : {M : Type 1} → statement M
+waits_spec =
     tie.close
     (tie.spec
     (λ c. search waits-laws)  -- add-x

@@ -3,8 +3,8 @@ use Rattle.actor.specs.PartLaws.{counts-laws}
 use Rattle.actor.proofs.part.counts.Statement.{statement}
 use Rattle.actor.proofs.part.counts.Tie as tie
 
-pub counts-spec : {M : Type 1} → statement M
-counts-spec =
+pub counts_spec : {M : Type 1} → statement M
+counts_spec =
     tie.close
     (tie.spec
     (λ c. search counts-laws)  -- shared-slice-read-if1

@@ -3,8 +3,8 @@ use Rattle.actor.specs.PartLaws.{end-laws}
 use Rattle.actor.proofs.part.end.Statement.{statement}
 use Rattle.actor.proofs.part.end.Tie as tie
 
-pub end-spec : {M : Type 1} → statement M
-end-spec =
+pub end_spec : {M : Type 1} → statement M
+end_spec =
     tie.close
     (tie.spec
     (λ c. search end-laws)  -- returns

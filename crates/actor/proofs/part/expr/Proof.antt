@@ -3,8 +3,8 @@ use Rattle.actor.specs.PartLaws.{expr-laws}
 use Rattle.actor.proofs.part.expr.Statement.{statement}
 use Rattle.actor.proofs.part.expr.Tie as tie
 
-pub expr-spec : {M : Type 1} → statement M
-expr-spec =
+pub expr_spec : {M : Type 1} → statement M
+expr_spec =
     tie.close
     (tie.spec
     (λ c. search expr-laws)  -- shared-slice-read-n

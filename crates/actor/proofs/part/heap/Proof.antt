@@ -3,8 +3,8 @@ use Rattle.actor.specs.PartLaws.{heap-laws}
 use Rattle.actor.proofs.part.heap.Statement.{statement}
 use Rattle.actor.proofs.part.heap.Tie as tie
 
-pub heap-spec : {M : Type 1} → statement M
-heap-spec =
+pub heap_spec : {M : Type 1} → statement M
+heap_spec =
     tie.close
     (tie.spec
     (λ c. search heap-laws)  -- shared-slice-read-m

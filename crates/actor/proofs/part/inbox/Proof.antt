@@ -3,8 +3,8 @@ use Rattle.actor.specs.PartLaws.{inbox-part-laws}
 use Rattle.actor.proofs.part.inbox.Statement.{statement}
 use Rattle.actor.proofs.part.inbox.Tie as tie
 
-pub inbox-spec : {M : Type 1} → statement M
-inbox-spec =
+pub inbox_spec : {M : Type 1} → statement M
+inbox_spec =
     tie.close
     (tie.spec
     (λ c. search inbox-part-laws)  -- shared-slice-read-n

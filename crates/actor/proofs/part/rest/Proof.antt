@@ -3,8 +3,8 @@ use Rattle.actor.specs.PartLaws.{rest-laws}
 use Rattle.actor.proofs.part.rest.Statement.{statement}
 use Rattle.actor.proofs.part.rest.Tie as tie
 
-pub rest-spec : {M : Type 1} → statement M
-rest-spec =
+pub rest_spec : {M : Type 1} → statement M
+rest_spec =
     tie.close (tie.spec (λ c κs. search rest-laws)  -- inbox-requires
     (λ c κs. search rest-laws)  -- waiting-requires
     (λ c κs. search rest-laws)  -- heap-requires

@@ -3,8 +3,8 @@ use Rattle.actor.specs.PartLaws.{waiting-part-laws}
 use Rattle.actor.proofs.part.waiting.Statement.{statement}
 use Rattle.actor.proofs.part.waiting.Tie as tie
 
-pub waiting-spec : {M : Type 1} → statement M
-waiting-spec =
+pub waiting_spec : {M : Type 1} → statement M
+waiting_spec =
     tie.close
     (tie.spec
     (λ c. search waiting-part-laws)  -- shared-slice-read-n

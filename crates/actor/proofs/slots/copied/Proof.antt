@@ -16,8 +16,8 @@ invariant-loop w at n k bodies b a words kinds i₀ m₀ left₀ e₀ i m left e
 abbrev decreases-loop : tie.decreases-loop
 decreases-loop w at n k bodies b a words kinds i₀ m₀ left₀ e₀ i m left e = left
 
-pub copied-spec : {M : Type 1} → statement M
-copied-spec =
+pub copied_spec : {M : Type 1} → statement M
+copied_spec =
     tie.close
     (tie.spec
     invariant-loop

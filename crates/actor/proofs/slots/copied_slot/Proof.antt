@@ -3,8 +3,8 @@ use Rattle.actor.specs.SlotLaws.{copied-slot-laws}
 use Rattle.actor.proofs.slots.copied_slot.Statement.{statement}
 use Rattle.actor.proofs.slots.copied_slot.Tie as tie
 
-pub copied-slot-spec : {M : Type 1} → statement M
-copied-slot-spec =
+pub copied_slot_spec : {M : Type 1} → statement M
+copied_slot_spec =
     tie.close
     (tie.spec
     (λ c. search copied-slot-laws)  -- mul-if1

@@ -3,8 +3,8 @@ use Rattle.actor.specs.SlotLaws.{fields-laws}
 use Rattle.actor.proofs.slots.fields.Statement.{statement}
 use Rattle.actor.proofs.slots.fields.Tie as tie
 
-pub fields-spec : {M : Type 1} → statement M
-fields-spec =
+pub fields_spec : {M : Type 1} → statement M
+fields_spec =
     tie.close
     (tie.spec
     (λ c. search fields-laws)  -- returns

@@ -3,8 +3,8 @@ use Rattle.actor.specs.SlotLaws.{future-laws}
 use Rattle.actor.proofs.slots.future.Statement.{statement}
 use Rattle.actor.proofs.slots.future.Tie as tie
 
-pub future-spec : {M : Type 1} → statement M
-future-spec = tie.close (tie.spec (λ c. search future-laws)  -- returns
+pub future_spec : {M : Type 1} → statement M
+future_spec = tie.close (tie.spec (λ c. search future-laws)  -- returns
     (λ c κs. search future-laws)  -- kind-of-requires
     (λ c κs. search future-laws)  -- is-future-requires
     (λ c. search future-laws)  -- returns-2

@@ -3,8 +3,8 @@ use Rattle.actor.specs.SlotLaws.{kind-laws}
 use Rattle.actor.proofs.slots.is_future.Statement.{statement}
 use Rattle.actor.proofs.slots.is_future.Tie as tie
 
-pub is-future-spec : {M : Type 1} → statement M
-is-future-spec = tie.close (tie.spec (λ c. search kind-laws)  -- returns
+pub is_future_spec : {M : Type 1} → statement M
+is_future_spec = tie.close (tie.spec (λ c. search kind-laws)  -- returns
     (λ c. search kind-laws)  -- returns-2
     (λ c. search kind-laws)  -- returns-3
     )

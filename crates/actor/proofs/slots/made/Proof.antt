@@ -16,8 +16,8 @@ invariant-loop w at n k bodies b a words kinds i₀ m₀ left₀ e₀ i m left e
 abbrev decreases-loop : tie.decreases-loop
 decreases-loop w at n k bodies b a words kinds i₀ m₀ left₀ e₀ i m left e = left
 
-pub made-spec : {M : Type 1} → statement M
-made-spec =
+pub made_spec : {M : Type 1} → statement M
+made_spec =
     tie.close
     (tie.spec
     invariant-loop

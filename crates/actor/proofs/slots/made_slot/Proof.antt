@@ -3,8 +3,8 @@ use Rattle.actor.specs.SlotLaws.{made-slot-laws}
 use Rattle.actor.proofs.slots.made_slot.Statement.{statement}
 use Rattle.actor.proofs.slots.made_slot.Tie as tie
 
-pub made-slot-spec : {M : Type 1} → statement M
-made-slot-spec =
+pub made_slot_spec : {M : Type 1} → statement M
+made_slot_spec =
     tie.close
     (tie.spec
     (λ c. search made-slot-laws)  -- mul-if1

@@ -3,8 +3,8 @@ use Rattle.actor.specs.SlotLaws.{object-laws}
 use Rattle.actor.proofs.slots.object.Statement.{statement}
 use Rattle.actor.proofs.slots.object.Tie as tie
 
-pub object-spec : {M : Type 1} → statement M
-object-spec =
+pub object_spec : {M : Type 1} → statement M
+object_spec =
     tie.close
     (tie.spec
     (λ c. search object-laws)  -- mul-methods

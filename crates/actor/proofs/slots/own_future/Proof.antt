@@ -3,8 +3,8 @@ use Rattle.actor.specs.SlotLaws.{own-laws}
 use Rattle.actor.proofs.slots.own_future.Statement.{statement}
 use Rattle.actor.proofs.slots.own_future.Tie as tie
 
-pub own-future-spec : {M : Type 1} → statement M
-own-future-spec =
+pub own_future_spec : {M : Type 1} → statement M
+own_future_spec =
     tie.close
     (tie.spec
     (λ c. search own-laws)  -- returns

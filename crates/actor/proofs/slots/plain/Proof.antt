@@ -3,8 +3,8 @@ use Rattle.actor.specs.SlotLaws.{plain-laws}
 use Rattle.actor.proofs.slots.plain.Statement.{statement}
 use Rattle.actor.proofs.slots.plain.Tie as tie
 
-pub plain-spec : {M : Type 1} → statement M
-plain-spec =
+pub plain_spec : {M : Type 1} → statement M
+plain_spec =
     tie.close
     (tie.spec
     (λ c. search plain-laws)  -- mul-if1

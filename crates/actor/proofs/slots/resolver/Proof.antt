@@ -3,8 +3,8 @@ use Rattle.actor.specs.SlotLaws.{resolver-laws}
 use Rattle.actor.proofs.slots.resolver.Statement.{statement}
 use Rattle.actor.proofs.slots.resolver.Tie as tie
 
-pub resolver-spec : {M : Type 1} → statement M
-resolver-spec =
+pub resolver_spec : {M : Type 1} → statement M
+resolver_spec =
     tie.close
     (tie.spec
     (λ c κs. search resolver-laws)  -- plain-requires

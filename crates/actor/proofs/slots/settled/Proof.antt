@@ -3,8 +3,8 @@ use Rattle.actor.specs.SlotLaws.{settled-laws}
 use Rattle.actor.proofs.slots.settled.Statement.{statement}
 use Rattle.actor.proofs.slots.settled.Tie as tie
 
-pub settled-spec : {M : Type 1} → statement M
-settled-spec =
+pub settled_spec : {M : Type 1} → statement M
+settled_spec =
     tie.close
     (tie.spec
     (λ c κs. search settled-laws)  -- plain-requires

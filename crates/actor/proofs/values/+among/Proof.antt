@@ -18,8 +18,8 @@ among-at t = and 0 among-kinds.ps (is 0 among-kinds.ps μ-among t) among.Pre
 abbrev among_below : ℕ → In 0 among-kinds.ps
 among_below t = and 0 among-kinds.ps (falls 0 among-kinds.ps ◌<◌ μ-among t) among.Pre
 
-pub +among-spec : {M : Type 1} → statement M
-+among-spec =
+pub +among_spec : {M : Type 1} → statement M
++among_spec =
     close
     μ-among
     λ t. among-lts.spec

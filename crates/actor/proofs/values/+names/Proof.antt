@@ -20,8 +20,8 @@ names_at t = and 0 names-kinds.ps (is 0 names-kinds.ps μ-names t) names.Pre
 abbrev names-below : ℕ → In 0 names-kinds.ps
 names-below t = and 0 names-kinds.ps (falls 0 names-kinds.ps ◌<◌ μ-names t) names.Pre
 
-pub +names-spec : {M : Type 1} → statement M
-+names-spec = close μ-names λ t. names-lts.spec (
+pub +names_spec : {M : Type 1} → statement M
++names_spec = close μ-names λ t. names-lts.spec (
   is-name-reads.Asked,
   is-name-reads.Learnt,
   Among-Reads.Asked,

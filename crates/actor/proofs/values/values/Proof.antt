@@ -11,8 +11,8 @@ invariant-loop w at n a kinds i₀ left₀ i left = Left kinds a w n at left i �
 abbrev decreases-loop : tie.decreases-loop
 decreases-loop w at n a kinds i₀ left₀ i left = left
 
-pub values-spec : {M : Type 1} → statement M
-values-spec =
+pub values_spec : {M : Type 1} → statement M
+values_spec =
     tie.close
     (tie.spec
     invariant-loop

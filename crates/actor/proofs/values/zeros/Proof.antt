@@ -3,8 +3,8 @@ use Rattle.actor.specs.ValueLaws.{zeros-laws}
 use Rattle.actor.proofs.values.zeros.Statement.{statement}
 use Rattle.actor.proofs.values.zeros.Tie as tie
 
-pub zeros-spec : {M : Type 1} → statement M
-zeros-spec =
+pub zeros_spec : {M : Type 1} → statement M
+zeros_spec =
     tie.close
     (tie.spec
     (λ c. search zeros-laws)  -- add-end

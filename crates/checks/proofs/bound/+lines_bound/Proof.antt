@@ -22,8 +22,8 @@ abbrev lines-bound-below : ℕ → In 2 lines-bound-kinds.ps
 lines-bound-below t =
     and 2 lines-bound-kinds.ps (falls 2 lines-bound-kinds.ps ◌<◌ μ-lines-bound t) lines-bound.Pre
 
-pub +lines-bound-spec : {M : Type 1} → statement M
-+lines-bound-spec = close μ-lines-bound λ t. lines-bound-lts.spec (
+pub +lines_bound_spec : {M : Type 1} → statement M
++lines_bound_spec = close μ-lines-bound λ t. lines-bound-lts.spec (
   scan-reads.Asked,
   scan-reads.Learnt,
   swap-reads.Asked,

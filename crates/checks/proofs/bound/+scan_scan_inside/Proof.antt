@@ -40,8 +40,8 @@ abbrev scan-inside-below : ℕ → In 2 scan-inside-kinds.ps
 scan-inside-below t =
     and 2 scan-inside-kinds.ps (falls 2 scan-inside-kinds.ps ◌<◌ μ-scan-inside t) scan-inside.Pre
 
-pub +scan-scan-inside-spec : {M : Type 1} → statement M
-+scan-scan-inside-spec = close μ-scan μ-scan-inside (λ t. scan-lts.spec (
+pub +scan_scan_inside_spec : {M : Type 1} → statement M
++scan_scan_inside_spec = close μ-scan μ-scan-inside (λ t. scan-lts.spec (
   sees-reads.Asked,
   sees-reads.Learnt,
   base-of-reads.Asked,

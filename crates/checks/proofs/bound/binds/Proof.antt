@@ -3,8 +3,8 @@ use Rattle.checks.specs.Bound.{laws}
 use Rattle.checks.proofs.bound.binds.Statement.{statement}
 use Rattle.checks.proofs.bound.binds.Tie as tie
 
-pub binds-spec : {M : Type 1} → statement M
-binds-spec = tie.close (tie.spec (λ c. search laws)  -- returns 48:1
+pub binds_spec : {M : Type 1} → statement M
+binds_spec = tie.close (tie.spec (λ c. search laws)  -- returns 48:1
     (λ c. search laws)  -- returns-2 48:1
     (λ c. search laws)  -- returns-3 48:1
     (λ c. search laws)  -- returns-4 48:1

@@ -12,8 +12,8 @@ invariant-loop text up₀ most₀ i₀ up most i = Deepening text up most i × (
 abbrev decreases-loop : tie.decreases-loop
 decreases-loop text up₀ most₀ i₀ up most i = length text - i
 
-pub depth-spec : {M : Type 1} → statement M
-depth-spec =
+pub depth_spec : {M : Type 1} → statement M
+depth_spec =
     tie.close
     (tie.spec
     invariant-loop

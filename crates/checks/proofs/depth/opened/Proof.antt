@@ -3,8 +3,8 @@ use Rattle.checks.specs.Depth.{laws}
 use Rattle.checks.proofs.depth.opened.Statement.{statement}
 use Rattle.checks.proofs.depth.opened.Tie as tie
 
-pub opened-spec : {M : Type 1} → statement M
-opened-spec = tie.close (tie.spec (λ c. search laws)  -- add-result 14:16
+pub opened_spec : {M : Type 1} → statement M
+opened_spec = tie.close (tie.spec (λ c. search laws)  -- add-result 14:16
     (λ c. search laws)  -- returns 14:9
     (λ c. search laws)  -- returns-2 18:13
     (λ c. search laws)  -- sub-result 20:16

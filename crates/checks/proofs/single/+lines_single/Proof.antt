@@ -26,8 +26,8 @@ lines-single-below t =
     (falls 1 lines-single-kinds.ps ◌<◌ μ-lines-single t)
     lines-single.Pre
 
-pub +lines-single-spec : {M : Type 1} → statement M
-+lines-single-spec = close μ-lines-single λ t. lines-single-lts.spec (
+pub +lines_single_spec : {M : Type 1} → statement M
++lines_single_spec = close μ-lines-single λ t. lines-single-lts.spec (
   line-start-reads.Asked,
   line-start-reads.Learnt,
   walk-reads.Asked,

@@ -22,8 +22,8 @@ walk_at t = and 1 walk-kinds.ps (is 1 walk-kinds.ps μ-walk t) walk.Pre
 abbrev walk-below : ℕ → In 1 walk-kinds.ps
 walk-below t = and 1 walk-kinds.ps (falls 1 walk-kinds.ps ◌<◌ μ-walk t) walk.Pre
 
-pub +walk-spec : {M : Type 1} → statement M
-+walk-spec = close μ-walk λ t. walk-lts.spec (
+pub +walk_spec : {M : Type 1} → statement M
++walk_spec = close μ-walk λ t. walk-lts.spec (
   own-reads.Asked,
   own-reads.Learnt,
   outer-reads.Asked,

@@ -3,8 +3,8 @@ use Rattle.checks.specs.Single.{laws}
 use Rattle.checks.proofs.single.fresh.Statement.{statement}
 use Rattle.checks.proofs.single.fresh.Tie as tie
 
-pub fresh-spec : {M : Type 1} → statement M
-fresh-spec = tie.close (tie.spec (λ c. search laws)  -- returns 13:9
+pub fresh_spec : {M : Type 1} → statement M
+fresh_spec = tie.close (tie.spec (λ c. search laws)  -- returns 13:9
     (λ c. search laws)  -- returns-2 16:9
     (λ c. search laws)  -- returns-3 19:9
     (λ c. search laws)  -- returns-4 9:1

@@ -3,8 +3,8 @@ use Rattle.checks.specs.Single.{laws}
 use Rattle.checks.proofs.single.own.Statement.{statement}
 use Rattle.checks.proofs.single.own.Tie as tie
 
-pub own-spec : {M : Type 1} → statement M
-own-spec =
+pub own_spec : {M : Type 1} → statement M
+own_spec =
     tie.close
     (tie.spec
     (λ c. search laws)  -- returns 55:17

@@ -3,7 +3,7 @@ use Rattle.checks.specs.SingleLines.{laws}
 use Rattle.checks.proofs.single.single.Statement.{statement}
 use Rattle.checks.proofs.single.single.Tie as tie
 
-pub single-spec : {M : Type 1} → statement M
-single-spec = tie.close (tie.spec (λ c κs. search laws)  -- lines-single-requires 125:5
+pub single_spec : {M : Type 1} → statement M
+single_spec = tie.close (tie.spec (λ c κs. search laws)  -- lines-single-requires 125:5
     (λ c. search laws)  -- returns 121:1
     )

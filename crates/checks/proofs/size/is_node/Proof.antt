@@ -3,7 +3,7 @@ use Rattle.checks.specs.Size.{laws}
 use Rattle.checks.proofs.size.is_node.Statement.{statement}
 use Rattle.checks.proofs.size.is_node.Tie as tie
 
-pub is-node-spec : {M : Type 1} → statement M
-is-node-spec = tie.close (tie.spec (λ c. search laws)  -- returns 8:1
+pub is_node_spec : {M : Type 1} → statement M
+is_node_spec = tie.close (tie.spec (λ c. search laws)  -- returns 8:1
     (λ c. search laws)  -- returns-2 8:1
     )

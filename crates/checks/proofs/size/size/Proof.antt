@@ -10,8 +10,8 @@ invariant-loop s words lines n₀ i₀ n i = Counting s words n i × (i ≤ word
 abbrev decreases-loop : tie.decreases-loop
 decreases-loop s words lines n₀ i₀ n i = words - i
 
-pub size-spec : {M : Type 1} → statement M
-size-spec =
+pub size_spec : {M : Type 1} → statement M
+size_spec =
     tie.close
     (tie.spec
     invariant-loop

@@ -3,8 +3,8 @@ use Rattle.checks.specs.TableWriteLaws.{laws}
 use Rattle.checks.proofs.table.method_word.Statement.{statement}
 use Rattle.checks.proofs.table.method_word.Tie as tie
 
-pub method-word-spec : {M : Type 1} → statement M
-method-word-spec =
+pub method_word_spec : {M : Type 1} → statement M
+method_word_spec =
     tie.close
     (tie.spec
     (λ c κs. search laws)  -- placed-requires 27:9

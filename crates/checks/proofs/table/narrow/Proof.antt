@@ -3,8 +3,8 @@ use Rattle.checks.specs.TableWriteLaws.{laws}
 use Rattle.checks.proofs.table.narrow.Statement.{statement}
 use Rattle.checks.proofs.table.narrow.Tie as tie
 
-pub narrow-spec : {M : Type 1} → statement M
-narrow-spec =
+pub narrow_spec : {M : Type 1} → statement M
+narrow_spec =
     tie.close
     (tie.spec
     (λ c. search laws)  -- mul-table-word 41:40

@@ -12,8 +12,8 @@ invariant-loop table₀ s words i₀ table i = Lining table₀ s words table i �
 abbrev decreases-loop : tie.decreases-loop
 decreases-loop table₀ s words i₀ table i = words - i
 
-pub put-lines-spec : {M : Type 1} → statement M
-put-lines-spec =
+pub put_lines_spec : {M : Type 1} → statement M
+put_lines_spec =
     tie.close
     (tie.spec
     invariant-loop

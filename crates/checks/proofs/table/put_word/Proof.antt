@@ -3,8 +3,8 @@ use Rattle.checks.specs.TableWriteLaws.{laws}
 use Rattle.checks.proofs.table.put_word.Statement.{statement}
 use Rattle.checks.proofs.table.put_word.Tie as tie
 
-pub put-word-spec : {M : Type 1} → statement M
-put-word-spec =
+pub put_word_spec : {M : Type 1} → statement M
+put_word_spec =
     tie.close
     (tie.spec
     (λ c κs. search laws)  -- low-half-requires 99:20

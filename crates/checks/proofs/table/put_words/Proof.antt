@@ -12,8 +12,8 @@ invariant-loop table₀ low high count k₀ table k = Wording table₀ low high 
 abbrev decreases-loop : tie.decreases-loop
 decreases-loop table₀ low high count k₀ table k = count - k
 
-pub put-words-spec : {M : Type 1} → statement M
-put-words-spec =
+pub put_words_spec : {M : Type 1} → statement M
+put_words_spec =
     tie.close
     (tie.spec
     invariant-loop

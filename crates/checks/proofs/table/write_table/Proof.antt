@@ -3,8 +3,8 @@ use Rattle.checks.specs.TableRegions.{laws}
 use Rattle.checks.proofs.table.write_table.Statement.{statement}
 use Rattle.checks.proofs.table.write_table.Tie as tie
 
-pub write-table-spec : {M : Type 1} → statement M
-write-table-spec =
+pub write_table_spec : {M : Type 1} → statement M
+write_table_spec =
     tie.close
     (tie.spec
     (λ c. search laws)  -- cast-put 130:19

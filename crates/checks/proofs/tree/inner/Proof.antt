@@ -3,8 +3,8 @@ use Rattle.checks.specs.TreeContract.{laws}
 use Rattle.checks.proofs.tree.inner.Statement.{statement}
 use Rattle.checks.proofs.tree.inner.Tie as tie
 
-pub inner-spec : {M : Type 1} → statement M
-inner-spec =
+pub inner_spec : {M : Type 1} → statement M
+inner_spec =
     tie.close
     (tie.spec
     (λ c. search laws)  -- returns 32:1

@@ -3,8 +3,8 @@ use Rattle.checks.specs.TreeContract.{laws}
 use Rattle.checks.proofs.tree.outer.Statement.{statement}
 use Rattle.checks.proofs.tree.outer.Tie as tie
 
-pub outer-spec : {M : Type 1} → statement M
-outer-spec =
+pub outer_spec : {M : Type 1} → statement M
+outer_spec =
     tie.close
     (tie.spec
     (λ c. search laws)  -- add-result

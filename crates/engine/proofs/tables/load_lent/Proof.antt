@@ -3,8 +3,8 @@ use Rattle.engine.specs.LoadContract.{laws}
 use Rattle.engine.proofs.tables.load_lent.Statement.{statement}
 use Rattle.engine.proofs.tables.load_lent.Tie as tie
 
-pub load-lent-spec : {M : Type 1} → statement M
-load-lent-spec =
+pub load_lent_spec : {M : Type 1} → statement M
+load_lent_spec =
     tie.close
     (tie.spec
     (λ c. search laws)  -- returns

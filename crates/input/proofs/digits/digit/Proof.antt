@@ -3,8 +3,8 @@ use Rattle.input.specs.Digits.{laws}
 use Rattle.input.proofs.digits.digit.Statement.{statement}
 use Rattle.input.proofs.digits.digit.Tie as tie
 
-pub digit-spec : {M : Type 1} → statement M
-digit-spec =
+pub digit_spec : {M : Type 1} → statement M
+digit_spec =
     tie.close
     (tie.spec
     (λ c. search laws)  -- returns

@@ -4,9 +4,9 @@ use Rattle.input.specs.Digits.{five_at}
 use Rattle.input.proofs.digits.five.Statement.{statement}
 use Rattle.input.proofs.digits.five.Tie as tie
 
-pub five-spec : {M : Type 1} → statement M
+pub five_spec : {M : Type 1} → statement M
 unfolding five_at
-five-spec =
+five_spec =
     tie.close
     (tie.spec
     (λ c κs. search rules)  -- two-requires

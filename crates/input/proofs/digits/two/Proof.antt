@@ -4,9 +4,9 @@ use Rattle.input.specs.Digits.{two_at}
 use Rattle.input.proofs.digits.two.Statement.{statement}
 use Rattle.input.proofs.digits.two.Tie as tie
 
-pub two-spec : {M : Type 1} → statement M
+pub two_spec : {M : Type 1} → statement M
 unfolding two_at
-two-spec =
+two_spec =
     tie.close
     (tie.spec
     (λ c. search rules)  -- shared-slice-read-digit

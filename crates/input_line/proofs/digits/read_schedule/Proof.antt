@@ -11,8 +11,8 @@ invariant-loop line entries₀ i₀ entries i = Scheduling line entries i
 abbrev decreases-loop : tie.decreases-loop
 decreases-loop line entries₀ i₀ entries i = length line - i
 
-pub read-schedule-spec : {M : Type 1} → statement M
-read-schedule-spec =
+pub read_schedule_spec : {M : Type 1} → statement M
+read_schedule_spec =
     tie.close
     (tie.spec
     invariant-loop

@@ -11,8 +11,8 @@ invariant-loop line entries₀ n₀ i₀ entries n i = Noting line entries n i
 abbrev decreases-loop : tie.decreases-loop
 decreases-loop line entries₀ n₀ i₀ entries n i = length line - i
 
-pub read-calls-spec : {M : Type 1} → statement M
-read-calls-spec =
+pub read_calls_spec : {M : Type 1} → statement M
+read_calls_spec =
     tie.close
     (tie.spec
     invariant-loop

@@ -3,8 +3,8 @@ use Rattle.lexemes.specs.AtomLaws.{laws}
 use Rattle.lexemes.proofs.atoms.atom.Statement.{statement}
 use Rattle.lexemes.proofs.atoms.atom.Tie as tie
 
-pub atom-spec : {M : Type 1} → statement M
-atom-spec =
+pub atom_spec : {M : Type 1} → statement M
+atom_spec =
     tie.close
     (tie.spec
     (λ c κs. search laws)

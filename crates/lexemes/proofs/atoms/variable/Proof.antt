@@ -3,8 +3,8 @@ use Rattle.lexemes.specs.AtomLaws.{laws}
 use Rattle.lexemes.proofs.atoms.variable.Statement.{statement}
 use Rattle.lexemes.proofs.atoms.variable.Tie as tie
 
-pub variable-spec : {M : Type 1} → statement M
-variable-spec =
+pub variable_spec : {M : Type 1} → statement M
+variable_spec =
     tie.close
     (tie.spec
     (λ c. search laws)

@@ -20,8 +20,8 @@ items_at t = and 3 items-kinds.ps (is 3 items-kinds.ps μ-items t) items.Pre
 abbrev items-below : ℕ → In 3 items-kinds.ps
 items-below t = and 3 items-kinds.ps (falls 3 items-kinds.ps ◌<◌ μ-items t) items.Pre
 
-pub +items-spec : {M : Type 1} → statement M
-+items-spec = close μ-items λ t. items-lts.spec (
+pub +items_spec : {M : Type 1} → statement M
++items_spec = close μ-items λ t. items-lts.spec (
   starts-reads.Asked,
   starts-reads.Learnt,
   spaced-word-reads.Asked,

@@ -3,8 +3,8 @@ use Rattle.lexemes.specs.Headers.{laws}
 use Rattle.lexemes.proofs.headers.method_head.Statement.{statement}
 use Rattle.lexemes.proofs.headers.method_head.Tie as tie
 
-pub method-head-spec : {M : Type 1} → statement M
-method-head-spec =
+pub method_head_spec : {M : Type 1} → statement M
+method_head_spec =
     tie.close (tie.spec (λ c κs. search laws)
     (λ c. search laws)
     (λ c κs. search laws)

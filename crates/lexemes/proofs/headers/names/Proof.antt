@@ -3,8 +3,8 @@ use Rattle.lexemes.specs.Headers.{laws}
 use Rattle.lexemes.proofs.headers.names.Statement.{statement}
 use Rattle.lexemes.proofs.headers.names.Tie as tie
 
-pub names-spec : {M : Type 1} → statement M
-names-spec =
+pub names_spec : {M : Type 1} → statement M
+names_spec =
     tie.close
     (tie.spec
     (λ c. search laws)

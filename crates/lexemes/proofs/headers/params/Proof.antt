@@ -3,8 +3,8 @@ use Rattle.lexemes.specs.Headers.{laws}
 use Rattle.lexemes.proofs.headers.params.Statement.{statement}
 use Rattle.lexemes.proofs.headers.params.Tie as tie
 
-pub params-spec : {M : Type 1} → statement M
-params-spec =
+pub params_spec : {M : Type 1} → statement M
+params_spec =
     tie.close
     (tie.spec
     (λ c. search laws)

@@ -3,8 +3,8 @@ use Rattle.lexemes.specs.NameLaws.{laws}
 use Rattle.lexemes.proofs.names.place.Statement.{statement}
 use Rattle.lexemes.proofs.names.place.Tie as tie
 
-pub place-spec : {M : Type 1} → statement M
-place-spec =
+pub place_spec : {M : Type 1} → statement M
+place_spec =
     tie.close
     (tie.spec (λ c κs. search laws)
     (λ c κs. search laws)

@@ -3,8 +3,8 @@ use Rattle.lexemes.specs.NameLaws.{laws}
 use Rattle.lexemes.proofs.names.spaced_word.Statement.{statement}
 use Rattle.lexemes.proofs.names.spaced_word.Tie as tie
 
-pub spaced-word-spec : {M : Type 1} → statement M
-spaced-word-spec =
+pub spaced_word_spec : {M : Type 1} → statement M
+spaced_word_spec =
     tie.close
     (tie.spec
     (λ c. search laws)

@@ -3,8 +3,8 @@ use Rattle.lexemes.specs.NameLaws.{laws}
 use Rattle.lexemes.proofs.names.word.Statement.{statement}
 use Rattle.lexemes.proofs.names.word.Tie as tie
 
-pub word-spec : {M : Type 1} → statement M
-word-spec =
+pub word_spec : {M : Type 1} → statement M
+word_spec =
     tie.close
     (tie.spec
     (λ c κs. search laws)

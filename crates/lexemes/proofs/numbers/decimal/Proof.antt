@@ -3,8 +3,8 @@ use Rattle.lexemes.specs.NumberLaws.{laws}
 use Rattle.lexemes.proofs.numbers.decimal.Statement.{statement}
 use Rattle.lexemes.proofs.numbers.decimal.Tie as tie
 
-pub decimal-spec : {M : Type 1} → statement M
-decimal-spec =
+pub decimal_spec : {M : Type 1} → statement M
+decimal_spec =
     tie.close
     (tie.spec
     (λ c. search laws)

@@ -11,8 +11,8 @@ invariant-loop text at end i₀ n₀ i n = Counted text at end i n
 abbrev decreases-loop : tie.decreases-loop
 decreases-loop text at end i₀ n₀ i n = end - i
 
-pub digits-spec : {M : Type 1} → statement M
-digits-spec =
+pub digits_spec : {M : Type 1} → statement M
+digits_spec =
     tie.close
     (tie.spec
     invariant-loop

@@ -23,8 +23,8 @@ abbrev show-inbox-below : ℕ → In 2 show-inbox-kinds.ps
 show-inbox-below t =
     and 2 show-inbox-kinds.ps (falls 2 show-inbox-kinds.ps ◌<◌ μ-show-inbox t) show-inbox.Pre
 
-pub +show-inbox-spec : {M : Type 1} → statement M
-+show-inbox-spec = close μ-show-inbox λ t. show-inbox-lts.spec (
+pub +show_inbox_spec : {M : Type 1} → statement M
++show_inbox_spec = close μ-show-inbox λ t. show-inbox-lts.spec (
   show-message-reads.Asked,
   show-message-reads.Learnt,
   put_reads.Asked,

@@ -28,8 +28,8 @@ show-waiting-below t =
     (falls 2 show-waiting-kinds.ps ◌<◌ μ-show-waiting t)
     show-waiting.Pre
 
-pub +show-waiting-spec : {M : Type 1} → statement M
-+show-waiting-spec = close μ-show-waiting λ t. show-waiting-lts.spec (
+pub +show_waiting_spec : {M : Type 1} → statement M
++show_waiting_spec = close μ-show-waiting λ t. show-waiting-lts.spec (
   aim-reads.Asked,
   aim-reads.Learnt,
   put_reads.Asked,

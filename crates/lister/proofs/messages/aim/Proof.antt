@@ -4,8 +4,8 @@ use Rattle.lister.specs.SlotLaws.{laws}
 use Rattle.lister.proofs.messages.aim.Statement.{statement}
 use Rattle.lister.proofs.messages.aim.Tie as tie
 
-pub aim-spec : {M : Type 1} → statement M
-aim-spec =
+pub aim_spec : {M : Type 1} → statement M
+aim_spec =
     tie.close
     (tie.spec
     (λ c. search laws)  -- returns

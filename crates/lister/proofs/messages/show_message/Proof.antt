@@ -5,9 +5,9 @@ use Rattle.lister.specs.SlotLaws.{message-whole}
 use Rattle.lister.proofs.messages.show_message.Statement.{statement}
 use Rattle.lister.proofs.messages.show_message.Tie as tie
 
-pub show-message-spec : {M : Type 1} → statement M
+pub show_message_spec : {M : Type 1} → statement M
 unfolding bytes
-show-message-spec =
+show_message_spec =
     tie.close
     (tie.spec
     (λ c. search rules)  -- mul-h

@@ -14,8 +14,8 @@ invariant-loop from at n to₀ o i₀ to i = Copying from at n to₀ o to i × (
 abbrev decreases-loop : tie.decreases-loop
 decreases-loop from at n to₀ o i₀ to i = n - i
 
-pub copy-words-spec : {M : Type 1} → statement M
-copy-words-spec =
+pub copy_words_spec : {M : Type 1} → statement M
+copy_words_spec =
     tie.close
     (tie.spec
     invariant-loop

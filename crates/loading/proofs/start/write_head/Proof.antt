@@ -4,8 +4,8 @@ use Rattle.loading.specs.Start.{write-laws}
 use Rattle.loading.proofs.start.write_head.Statement.{statement}
 use Rattle.loading.proofs.start.write_head.Tie as tie
 
-pub write-head-spec : {M : Type 1} → statement M
-write-head-spec =
+pub write_head_spec : {M : Type 1} → statement M
+write_head_spec =
     tie.close
     (tie.spec
     (λ c κs. search rules)  -- store-requires

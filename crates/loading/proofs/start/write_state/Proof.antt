@@ -4,8 +4,8 @@ use Rattle.loading.specs.Start.{write-laws}
 use Rattle.loading.proofs.start.write_state.Statement.{statement}
 use Rattle.loading.proofs.start.write_state.Tie as tie
 
-pub write-state-spec : {M : Type 1} → statement M
-write-state-spec =
+pub write_state_spec : {M : Type 1} → statement M
+write_state_spec =
     tie.close
     (tie.spec
     (λ c κs. search rules)  -- write-head-requires

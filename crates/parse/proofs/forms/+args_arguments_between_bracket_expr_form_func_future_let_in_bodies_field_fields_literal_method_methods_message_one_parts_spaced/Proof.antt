@@ -257,9 +257,9 @@ spaced-at t = and 4 spaced-kinds.ps (is 4 spaced-kinds.ps μ-spaced t) spaced.Pr
 abbrev spaced-below : ℕ → In 4 spaced-kinds.ps
 spaced-below t = and 4 spaced-kinds.ps (falls 4 spaced-kinds.ps ◌<◌ μ-spaced t) spaced.Pre
 
-pub +args-arguments-between-bracket-expr-form-func-future-let-in-bodies-field-fields-literal-method-methods-message-one-parts-spaced-spec :
+pub +args_arguments_between_bracket_expr_form_func_future_let_in_bodies_field_fields_literal_method_methods_message_one_parts_spaced_spec :
     {M : Type 1} → statement M
-+args-arguments-between-bracket-expr-form-func-future-let-in-bodies-field-fields-literal-method-methods-message-one-parts-spaced-spec =
++args_arguments_between_bracket_expr_form_func_future_let_in_bodies_field_fields_literal_method_methods_message_one_parts_spaced_spec =
     close
     μ-args
     μ-arguments

@@ -3,8 +3,8 @@ use Rattle.parse.specs.TextLaws.{laws}
 use Rattle.parse.proofs.lines.ends.Statement.{statement}
 use Rattle.parse.proofs.lines.ends.Tie as tie
 
-pub ends-spec : {M : Type 1} → statement M
-ends-spec = tie.close (tie.spec (λ c. search laws)
+pub ends_spec : {M : Type 1} → statement M
+ends_spec = tie.close (tie.spec (λ c. search laws)
     (λ c κs. search laws)
     (λ c. search laws)
     (λ c. search laws)

@@ -3,8 +3,8 @@ use Rattle.parse.specs.Lines.{laws}
 use Rattle.parse.proofs.lines.line.Statement.{statement}
 use Rattle.parse.proofs.lines.line.Tie as tie
 
-pub line-spec : {M : Type 1} → statement M
-line-spec =
+pub line_spec : {M : Type 1} → statement M
+line_spec =
     tie.close
     (tie.spec
     (λ c. search laws)

@@ -12,8 +12,8 @@ invariant-loop text low high count out₀ at₀ o₀ n₀ last₀ out at o n las
 abbrev decreases-loop : tie.decreases-loop
 decreases-loop text low high count out₀ at₀ o₀ n₀ last₀ out at o n last = length text - at
 
-pub lines-spec : {M : Type 1} → statement M
-lines-spec =
+pub lines_spec : {M : Type 1} → statement M
+lines_spec =
     tie.close
     (tie.spec
     invariant-loop

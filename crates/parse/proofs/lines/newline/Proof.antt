@@ -3,8 +3,8 @@ use Rattle.parse.specs.Lines.{laws}
 use Rattle.parse.proofs.lines.newline.Statement.{statement}
 use Rattle.parse.proofs.lines.newline.Tie as tie
 
-pub newline-spec : {M : Type 1} → statement M
-newline-spec = tie.close (tie.spec (λ c. search laws)
+pub newline_spec : {M : Type 1} → statement M
+newline_spec = tie.close (tie.spec (λ c. search laws)
     (λ c κs. search laws)
     (λ c. search laws)
     (λ c. search laws)

@@ -3,8 +3,8 @@ use Rattle.parse.specs.Lines.{laws}
 use Rattle.parse.proofs.lines.sentence.Statement.{statement}
 use Rattle.parse.proofs.lines.sentence.Tie as tie
 
-pub sentence-spec : {M : Type 1} → statement M
-sentence-spec =
+pub sentence_spec : {M : Type 1} → statement M
+sentence_spec =
     tie.close
     (tie.spec
     (λ c κs. search laws)

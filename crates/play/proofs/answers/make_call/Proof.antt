@@ -3,8 +3,8 @@ use Rattle.play.specs.Calls.{answering}
 use Rattle.play.proofs.answers.make_call.Statement.{statement}
 use Rattle.play.proofs.answers.make_call.Tie as tie
 
-pub make-call-spec : {M : Type 1} → statement M
-make-call-spec =
+pub make_call_spec : {M : Type 1} → statement M
+make_call_spec =
     tie.close
     (tie.spec
     (λ c κs. search answering)  -- move-actor-requires

@@ -11,8 +11,8 @@ invariant-loop state₀ entries text₀ k₀ i₀ state text k i = Calling state
 abbrev decreases-loop : tie.decreases-loop
 decreases-loop state₀ entries text₀ k₀ i₀ state text k i = length entries - i
 
-pub make-calls-spec : {M : Type 1} → statement M
-make-calls-spec =
+pub make_calls_spec : {M : Type 1} → statement M
+make_calls_spec =
     tie.close
     (tie.spec
     invariant-loop

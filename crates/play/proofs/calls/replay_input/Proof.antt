@@ -3,8 +3,8 @@ use Rattle.play.specs.Replays.{laws}
 use Rattle.play.proofs.calls.replay_input.Statement.{statement}
 use Rattle.play.proofs.calls.replay_input.Tie as tie
 
-pub replay-input-spec : {M : Type 1} → statement M
-replay-input-spec =
+pub replay_input_spec : {M : Type 1} → statement M
+replay_input_spec =
     tie.close
     (tie.spec
     (λ c κs. search laws)  -- first-line-requires

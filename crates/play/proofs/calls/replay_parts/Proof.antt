@@ -3,8 +3,8 @@ use Rattle.play.specs.Replays.{laws}
 use Rattle.play.proofs.calls.replay_parts.Statement.{statement}
 use Rattle.play.proofs.calls.replay_parts.Tie as tie
 
-pub replay-parts-spec : {M : Type 1} → statement M
-replay-parts-spec =
+pub replay_parts_spec : {M : Type 1} → statement M
+replay_parts_spec =
     tie.close
     (tie.spec
     (λ c. search laws)  -- slice-aggregate-read-calls

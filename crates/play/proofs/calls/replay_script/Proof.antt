@@ -3,8 +3,8 @@ use Rattle.play.specs.Replays.{laws}
 use Rattle.play.proofs.calls.replay_script.Statement.{statement}
 use Rattle.play.proofs.calls.replay_script.Tie as tie
 
-pub replay-script-spec : {M : Type 1} → statement M
-replay-script-spec =
+pub replay_script_spec : {M : Type 1} → statement M
+replay_script_spec =
     tie.close
     (tie.spec
     (λ c. search laws)  -- slice-aggregate-start

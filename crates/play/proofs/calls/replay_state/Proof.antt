@@ -3,8 +3,8 @@ use Rattle.play.specs.Replays.{laws}
 use Rattle.play.proofs.calls.replay_state.Statement.{statement}
 use Rattle.play.proofs.calls.replay_state.Tie as tie
 
-pub replay-state-spec : {M : Type 1} → statement M
-replay-state-spec =
+pub replay_state_spec : {M : Type 1} → statement M
+replay_state_spec =
     tie.close
     (tie.spec
     (λ c. search laws)  -- slice-aggregate-make-calls

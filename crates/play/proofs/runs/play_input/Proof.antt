@@ -3,8 +3,8 @@ use Rattle.play.specs.Schedules.{laws}
 use Rattle.play.proofs.runs.play_input.Statement.{statement}
 use Rattle.play.proofs.runs.play_input.Tie as tie
 
-pub play-input-spec : {M : Type 1} → statement M
-play-input-spec =
+pub play_input_spec : {M : Type 1} → statement M
+play_input_spec =
     tie.close
     (tie.spec
     (λ c κs. search laws)  -- first-line-requires

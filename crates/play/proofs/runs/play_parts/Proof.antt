@@ -3,8 +3,8 @@ use Rattle.play.specs.Schedules.{laws}
 use Rattle.play.proofs.runs.play_parts.Statement.{statement}
 use Rattle.play.proofs.runs.play_parts.Tie as tie
 
-pub play-parts-spec : {M : Type 1} → statement M
-play-parts-spec =
+pub play_parts_spec : {M : Type 1} → statement M
+play_parts_spec =
     tie.close
     (tie.spec
     (λ c. search laws)  -- slice-aggregate-read-schedule

@@ -3,8 +3,8 @@ use Rattle.play.specs.Schedules.{laws}
 use Rattle.play.proofs.runs.play_script.Statement.{statement}
 use Rattle.play.proofs.runs.play_script.Tie as tie
 
-pub play-script-spec : {M : Type 1} → statement M
-play-script-spec =
+pub play_script_spec : {M : Type 1} → statement M
+play_script_spec =
     tie.close
     (tie.spec
     (λ c. search laws)  -- slice-aggregate-start

@@ -3,8 +3,8 @@ use Rattle.play.specs.Schedules.{laws}
 use Rattle.play.proofs.runs.play_state.Statement.{statement}
 use Rattle.play.proofs.runs.play_state.Tie as tie
 
-pub play-state-spec : {M : Type 1} → statement M
-play-state-spec =
+pub play_state_spec : {M : Type 1} → statement M
+play_state_spec =
     tie.close
     (tie.spec
     (λ c κs. search laws)  -- run-requires

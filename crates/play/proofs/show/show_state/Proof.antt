@@ -3,8 +3,8 @@ use Rattle.play.specs.Listings.{laws}
 use Rattle.play.proofs.show.show_state.Statement.{statement}
 use Rattle.play.proofs.show.show_state.Tie as tie
 
-pub show-state-spec : {M : Type 1} → statement M
-show-state-spec =
+pub show_state_spec : {M : Type 1} → statement M
+show_state_spec =
     tie.close
     (tie.spec
     (λ c. search laws)  -- add-e

@@ -3,8 +3,8 @@ use Rattle.scan.specs.Keywords.{laws}
 use Rattle.scan.proofs.bytes.named.Statement.{statement}
 use Rattle.scan.proofs.bytes.named.Tie as tie
 
-pub named-spec : {M : Type 1} → statement M
-named-spec = tie.close (tie.spec (λ c. search laws)
+pub named_spec : {M : Type 1} → statement M
+named_spec = tie.close (tie.spec (λ c. search laws)
     (λ c κs. search laws)
     (λ c. search laws)
     (λ c. search laws)

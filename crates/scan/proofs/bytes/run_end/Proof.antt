@@ -12,8 +12,8 @@ invariant-loop text at i₀ i = Passed text at i
 abbrev decreases-loop : tie.decreases-loop
 decreases-loop text at i₀ i = length text - i
 
-pub run-end-spec : {M : Type 1} → statement M
-run-end-spec =
+pub run_end_spec : {M : Type 1} → statement M
+run_end_spec =
     tie.close
     (tie.spec
     invariant-loop

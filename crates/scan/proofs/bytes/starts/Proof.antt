@@ -12,8 +12,8 @@ invariant-loop text at w i₀ i = Begun text at w i
 abbrev decreases-loop : tie.decreases-loop
 decreases-loop text at w i₀ i = length w - i
 
-pub starts-spec : {M : Type 1} → statement M
-starts-spec =
+pub starts_spec : {M : Type 1} → statement M
+starts_spec =
     tie.close
     (tie.spec
     invariant-loop

@@ -3,8 +3,8 @@ use Rattle.scan.specs.WordNumberLaws.{laws}
 use Rattle.scan.proofs.codes.high_part.Statement.{statement}
 use Rattle.scan.proofs.codes.high_part.Tie as tie
 
-pub high-part-spec : {M : Type 1} → statement M
-high-part-spec =
+pub high_part_spec : {M : Type 1} → statement M
+high_part_spec =
     tie.close (tie.spec (λ c. search laws)
     (λ c. search laws)
     (λ c. search laws)

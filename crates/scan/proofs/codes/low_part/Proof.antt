@@ -3,8 +3,8 @@ use Rattle.scan.specs.WordNumberLaws.{laws}
 use Rattle.scan.proofs.codes.low_part.Statement.{statement}
 use Rattle.scan.proofs.codes.low_part.Tie as tie
 
-pub low-part-spec : {M : Type 1} → statement M
-low-part-spec =
+pub low_part_spec : {M : Type 1} → statement M
+low_part_spec =
     tie.close (tie.spec (λ c. search laws)
     (λ c κs. search laws)
     (λ c. search laws)

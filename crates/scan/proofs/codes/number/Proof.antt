@@ -10,8 +10,8 @@ invariant-loop text at end i₀ n₀ i n = Numbered text at end i n
 abbrev decreases-loop : tie.decreases-loop
 decreases-loop text at end i₀ n₀ i n = i
 
-pub number-spec : {M : Type 1} → statement M
-number-spec =
+pub number_spec : {M : Type 1} → statement M
+number_spec =
     tie.close
     (tie.spec
     invariant-loop

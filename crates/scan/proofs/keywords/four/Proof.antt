@@ -4,9 +4,9 @@ use Rattle.scan.specs.Keywords.{laws, keyword-not, Compared}
 use Rattle.scan.proofs.keywords.four.Statement.{statement}
 use Rattle.scan.proofs.keywords.four.Tie as tie
 
-pub four-spec : {M : Type 1} → statement M
+pub four_spec : {M : Type 1} → statement M
 unfolding Compared
-four-spec =
+four_spec =
     tie.close
     (tie.spec
     (λ c. search laws)  -- slice-aggregate-named

@@ -3,8 +3,8 @@ use Rattle.scan.specs.Keywords.{laws}
 use Rattle.scan.proofs.keywords.is_word.Statement.{statement}
 use Rattle.scan.proofs.keywords.is_word.Tie as tie
 
-pub is-word-spec : {M : Type 1} → statement M
-is-word-spec =
+pub is_word_spec : {M : Type 1} → statement M
+is_word_spec =
     tie.close
     (tie.spec
     (λ c. search laws)

@@ -3,8 +3,8 @@ use Rattle.scan.specs.Keywords.{laws}
 use Rattle.scan.proofs.keywords.keyword.Statement.{statement}
 use Rattle.scan.proofs.keywords.keyword.Tie as tie
 
-pub keyword-spec : {M : Type 1} → statement M
-keyword-spec =
+pub keyword_spec : {M : Type 1} → statement M
+keyword_spec =
     tie.close
     (tie.spec
     (λ c. search laws)  -- sub-if1

@@ -4,9 +4,9 @@ use Rattle.scan.specs.Keywords.{laws, keyword-not, Compared}
 use Rattle.scan.proofs.keywords.other.Statement.{statement}
 use Rattle.scan.proofs.keywords.other.Tie as tie
 
-pub other-spec : {M : Type 1} → statement M
+pub other_spec : {M : Type 1} → statement M
 unfolding Compared
-other-spec =
+other_spec =
     tie.close
     (tie.spec
     (λ c. search laws)  -- slice-aggregate-named

@@ -4,9 +4,9 @@ use Rattle.scan.specs.Keywords.{laws, keyword-not, Compared}
 use Rattle.scan.proofs.keywords.three.Statement.{statement}
 use Rattle.scan.proofs.keywords.three.Tie as tie
 
-pub three-spec : {M : Type 1} → statement M
+pub three_spec : {M : Type 1} → statement M
 unfolding Compared
-three-spec =
+three_spec =
     tie.close
     (tie.spec
     (λ c. search laws)  -- slice-aggregate-named

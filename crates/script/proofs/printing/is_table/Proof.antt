@@ -3,8 +3,8 @@ use Rattle.script.specs.TableTest.{laws}
 use Rattle.script.proofs.printing.is_table.Statement.{statement}
 use Rattle.script.proofs.printing.is_table.Tie as tie
 
-pub is-table-spec : {M : Type 1} → statement M
-is-table-spec =
+pub is_table_spec : {M : Type 1} → statement M
+is_table_spec =
     tie.close
     (tie.spec
     (λ c. search laws)  -- slice-aggregate-print-table

@@ -3,8 +3,8 @@ use Rattle.script.specs.Reprinting.{laws}
 use Rattle.script.proofs.printing.is_text.Statement.{statement}
 use Rattle.script.proofs.printing.is_text.Tie as tie
 
-pub is-text-spec : {M : Type 1} → statement M
-is-text-spec =
+pub is_text_spec : {M : Type 1} → statement M
+is_text_spec =
     tie.close
     (tie.spec
     (λ c. search laws)  -- slice-aggregate-read-text 30:45

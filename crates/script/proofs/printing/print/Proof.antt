@@ -8,5 +8,5 @@ returns : tie.Need-returns
 unfolding Prints
 returns c = search rules
 
-pub print-spec : {M : Type 1} → statement M
-print-spec = tie.close (tie.spec (λ c κs. search rules) (λ c. search rules) returns)
+pub print_spec : {M : Type 1} → statement M
+print_spec = tie.close (tie.spec (λ c κs. search rules) (λ c. search rules) returns)

@@ -3,8 +3,8 @@ use Rattle.script.specs.PrintContract.{laws}
 use Rattle.script.proofs.printing.print_made.Statement.{statement}
 use Rattle.script.proofs.printing.print_made.Tie as tie
 
-pub print-made-spec : {M : Type 1} → statement M
-print-made-spec =
+pub print_made_spec : {M : Type 1} → statement M
+print_made_spec =
     tie.close
     (tie.spec (λ c. search laws)  -- slice-aggregate-front 42:9
     (λ c κs. search laws)  -- is-text-requires 43:8

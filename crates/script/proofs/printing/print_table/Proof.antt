@@ -3,8 +3,8 @@ use Rattle.script.specs.Reprinting.{laws}
 use Rattle.script.proofs.printing.print_table.Statement.{statement}
 use Rattle.script.proofs.printing.print_table.Tie as tie
 
-pub print-table-spec : {M : Type 1} → statement M
-print-table-spec =
+pub print_table_spec : {M : Type 1} → statement M
+print_table_spec =
     tie.close
     (tie.spec
     (λ c. search laws)  -- returns 54:9

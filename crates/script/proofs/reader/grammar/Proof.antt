@@ -3,8 +3,8 @@ use Rattle.script.specs.ParserAnswer.{laws}
 use Rattle.script.proofs.reader.grammar.Statement.{statement}
 use Rattle.script.proofs.reader.grammar.Tie as tie
 
-pub grammar-spec : {M : Type 1} → statement M
-grammar-spec =
+pub grammar_spec : {M : Type 1} → statement M
+grammar_spec =
     tie.close
     (tie.spec
     (λ c κs. search laws)  -- scan-requires 106:9

@@ -3,8 +3,8 @@ use Rattle.script.specs.ReaderCauses.{laws}
 use Rattle.script.proofs.reader.limits.Statement.{statement}
 use Rattle.script.proofs.reader.limits.Tie as tie
 
-pub limits-spec : {M : Type 1} → statement M
-limits-spec =
+pub limits_spec : {M : Type 1} → statement M
+limits_spec =
     tie.close
     (tie.spec
     (λ c κs. search laws)  -- depth-requires 39:9

@@ -3,8 +3,8 @@ use Rattle.script.specs.ParserAnswer.{laws}
 use Rattle.script.proofs.reader.read_text.Statement.{statement}
 use Rattle.script.proofs.reader.read_text.Tie as tie
 
-pub read-text-spec : {M : Type 1} → statement M
-read-text-spec =
+pub read_text_spec : {M : Type 1} → statement M
+read_text_spec =
     tie.close (tie.spec (λ c. search laws)  -- returns 124:9
     (λ c. search laws)  -- returns-2 127:9
     (λ c. search laws)  -- returns-3 130:9

@@ -5,9 +5,9 @@ use Rattle.showing.specs.HeadLaws.{names}
 use Rattle.showing.proofs.heads.first_name.Statement.{statement}
 use Rattle.showing.proofs.heads.first_name.Tie as tie
 
-pub first-name-spec : {M : Type 1} → statement M
+pub first_name_spec : {M : Type 1} → statement M
 unfolding first_in
-first-name-spec =
+first_name_spec =
     tie.close
     (tie.spec
     (λ c. search rules)  -- cast-result

@@ -6,9 +6,9 @@ use Rattle.showing.specs.HeadLaws.{names}
 use Rattle.showing.proofs.heads.name_after.Statement.{statement}
 use Rattle.showing.proofs.heads.name_after.Tie as tie
 
-pub name-after-spec : {M : Type 1} → statement M
+pub name_after_spec : {M : Type 1} → statement M
 unfolding after_in Kinds
-name-after-spec =
+name_after_spec =
     tie.close
     (tie.spec
     (λ c κs. search rules)  -- operator-requires

@@ -4,8 +4,8 @@ use Rattle.showing.specs.HeadLaws.{laws}
 use Rattle.showing.proofs.heads.put_open.Statement.{statement}
 use Rattle.showing.proofs.heads.put_open.Tie as tie
 
-pub put-open-spec : {M : Type 1} → statement M
-put-open-spec =
+pub put_open_spec : {M : Type 1} → statement M
+put_open_spec =
     tie.close
     (tie.spec (λ c. search rules)  -- slice-aggregate-put-bytes
     (λ c κs. search rules)  -- put-bytes-requires

@@ -4,8 +4,8 @@ use Rattle.showing.specs.HeadLaws.{laws}
 use Rattle.showing.proofs.heads.put_operator.Statement.{statement}
 use Rattle.showing.proofs.heads.put_operator.Tie as tie
 
-pub put-operator-spec : {M : Type 1} → statement M
-put-operator-spec =
+pub put_operator_spec : {M : Type 1} → statement M
+put_operator_spec =
     tie.close
     (tie.spec
     (λ c κs. search rules)  -- put-requires

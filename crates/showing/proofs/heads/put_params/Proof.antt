@@ -4,8 +4,8 @@ use Rattle.showing.specs.HeadLaws.{laws}
 use Rattle.showing.proofs.heads.put_params.Statement.{statement}
 use Rattle.showing.proofs.heads.put_params.Tie as tie
 
-pub put-params-spec : {M : Type 1} → statement M
-put-params-spec =
+pub put_params_spec : {M : Type 1} → statement M
+put_params_spec =
     tie.close (tie.spec (λ c. search laws)  -- returns
     (λ c. search rules)  -- cast-x
     (λ c. search rules)  -- cast-y

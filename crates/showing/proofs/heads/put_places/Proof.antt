@@ -4,8 +4,8 @@ use Rattle.showing.specs.HeadLaws.{places-whole}
 use Rattle.showing.proofs.heads.put_places.Statement.{statement}
 use Rattle.showing.proofs.heads.put_places.Tie as tie
 
-pub put-places-spec : {M : Type 1} → statement M
-put-places-spec =
+pub put_places_spec : {M : Type 1} → statement M
+put_places_spec =
     tie.close
     (tie.spec
     (λ c κs. search rules)  -- put-open-requires

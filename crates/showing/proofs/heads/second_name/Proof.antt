@@ -5,9 +5,9 @@ use Rattle.showing.specs.HeadLaws.{seconds}
 use Rattle.showing.proofs.heads.second_name.Statement.{statement}
 use Rattle.showing.proofs.heads.second_name.Tie as tie
 
-pub second-name-spec : {M : Type 1} → statement M
+pub second_name_spec : {M : Type 1} → statement M
 unfolding second
-second-name-spec = tie.close (tie.spec (λ c. search rules)  -- cast-result
+second_name_spec = tie.close (tie.spec (λ c. search rules)  -- cast-result
     (λ c. search seconds)  -- returns
     (λ c. search seconds)  -- returns-2
     )

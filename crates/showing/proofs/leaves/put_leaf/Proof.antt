@@ -4,8 +4,8 @@ use Rattle.showing.specs.HeadLaws.{laws}
 use Rattle.showing.proofs.leaves.put_leaf.Statement.{statement}
 use Rattle.showing.proofs.leaves.put_leaf.Tie as tie
 
-pub put-leaf-spec : {M : Type 1} → statement M
-put-leaf-spec =
+pub put_leaf_spec : {M : Type 1} → statement M
+put_leaf_spec =
     tie.close
     (tie.spec
     (λ c κs. search rules)  -- put-keyword-requires

@@ -4,8 +4,8 @@ use Rattle.showing.specs.HeadLaws.{laws}
 use Rattle.showing.proofs.leaves.put_owner.Statement.{statement}
 use Rattle.showing.proofs.leaves.put_owner.Tie as tie
 
-pub put-owner-spec : {M : Type 1} → statement M
-put-owner-spec =
+pub put_owner_spec : {M : Type 1} → statement M
+put_owner_spec =
     tie.close
     (tie.spec (λ c. search rules)  -- slice-aggregate-put-bytes
     (λ c κs. search rules)  -- put-bytes-requires

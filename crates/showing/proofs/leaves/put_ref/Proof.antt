@@ -4,8 +4,8 @@ use Rattle.showing.specs.HeadLaws.{ref-whole}
 use Rattle.showing.proofs.leaves.put_ref.Statement.{statement}
 use Rattle.showing.proofs.leaves.put_ref.Tie as tie
 
-pub put-ref-spec : {M : Type 1} → statement M
-put-ref-spec =
+pub put_ref_spec : {M : Type 1} → statement M
+put_ref_spec =
     tie.close
     (tie.spec
     (λ c κs. search rules)  -- put-owner-requires

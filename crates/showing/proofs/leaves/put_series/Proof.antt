@@ -4,8 +4,8 @@ use Rattle.showing.specs.HeadLaws.{laws}
 use Rattle.showing.proofs.leaves.put_series.Statement.{statement}
 use Rattle.showing.proofs.leaves.put_series.Tie as tie
 
-pub put-series-spec : {M : Type 1} → statement M
-put-series-spec =
+pub put_series_spec : {M : Type 1} → statement M
+put_series_spec =
     tie.close
     (tie.spec
     (λ c. search rules)  -- slice-aggregate-put-bytes

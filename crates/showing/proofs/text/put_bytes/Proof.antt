@@ -14,8 +14,8 @@ invariant-loop s out₀ o p₀ i₀ out p i = Wrote out₀ o (take i s) out p ×
 abbrev decreases-loop : tie.decreases-loop
 decreases-loop s out₀ o p₀ i₀ out p i = length s - i
 
-pub put-bytes-spec : {M : Type 1} → statement M
-put-bytes-spec =
+pub put_bytes_spec : {M : Type 1} → statement M
+put_bytes_spec =
     tie.close
     (tie.spec
     invariant-loop

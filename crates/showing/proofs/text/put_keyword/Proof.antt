@@ -6,9 +6,9 @@ use Rattle.showing.specs.PutLaws.{Passing, keys}
 use Rattle.showing.proofs.text.put_keyword.Statement.{statement}
 use Rattle.showing.proofs.text.put_keyword.Tie as tie
 
-pub put-keyword-spec : {M : Type 1} → statement M
+pub put_keyword_spec : {M : Type 1} → statement M
 unfolding Words bytes Passing
-put-keyword-spec =
+put_keyword_spec =
     tie.close
     (tie.spec
     (λ c. search rules)  -- slice-aggregate-put-bytes

@@ -7,9 +7,9 @@ use Rattle.showing.specs.PutLaws.{knowns}
 use Rattle.showing.proofs.text.put_known.Statement.{statement}
 use Rattle.showing.proofs.text.put_known.Tie as tie
 
-pub put-known-spec : {M : Type 1} → statement M
+pub put_known_spec : {M : Type 1} → statement M
 unfolding known_in Words bytes
-put-known-spec =
+put_known_spec =
     tie.close
     (tie.spec
     (λ c κs. search rules)  -- put-keyword-requires

@@ -4,8 +4,8 @@ use Rattle.showing.specs.PutLaws.{laws}
 use Rattle.showing.proofs.text.put_letter.Statement.{statement}
 use Rattle.showing.proofs.text.put_letter.Tie as tie
 
-pub put-letter-spec : {M : Type 1} → statement M
-put-letter-spec = tie.close (tie.spec (λ c. search laws)  -- returns
+pub put_letter_spec : {M : Type 1} → statement M
+put_letter_spec = tie.close (tie.spec (λ c. search laws)  -- returns
     (λ c. search rules)  -- cast-put
     (λ c κs. search rules)  -- put-requires
     (λ c. search rules)  -- same-length

@@ -4,8 +4,8 @@ use Rattle.showing.specs.PutLaws.{laws}
 use Rattle.showing.proofs.text.put_letters.Statement.{statement}
 use Rattle.showing.proofs.text.put_letters.Tie as tie
 
-pub put-letters-spec : {M : Type 1} → statement M
-put-letters-spec =
+pub put_letters_spec : {M : Type 1} → statement M
+put_letters_spec =
     tie.close
     (tie.spec
     (λ c κs. search rules)  -- put-letter-requires

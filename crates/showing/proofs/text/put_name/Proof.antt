@@ -4,8 +4,8 @@ use Rattle.showing.specs.PutLaws.{laws}
 use Rattle.showing.proofs.text.put_name.Statement.{statement}
 use Rattle.showing.proofs.text.put_name.Tie as tie
 
-pub put-name-spec : {M : Type 1} → statement M
-put-name-spec = tie.close (tie.spec (λ c. search laws)  -- returns
+pub put_name_spec : {M : Type 1} → statement M
+put_name_spec = tie.close (tie.spec (λ c. search laws)  -- returns
     (λ c κs. search rules)  -- put-requires
     (λ c κs. search rules)  -- put-tagged-requires
     (λ c. search rules)  -- same-length

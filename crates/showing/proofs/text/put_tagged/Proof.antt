@@ -4,8 +4,8 @@ use Rattle.showing.specs.PutLaws.{laws}
 use Rattle.showing.proofs.text.put_tagged.Statement.{statement}
 use Rattle.showing.proofs.text.put_tagged.Tie as tie
 
-pub put-tagged-spec : {M : Type 1} → statement M
-put-tagged-spec =
+pub put_tagged_spec : {M : Type 1} → statement M
+put_tagged_spec =
     tie.close
     (tie.spec
     (λ c κs. search rules)  -- put-word-requires

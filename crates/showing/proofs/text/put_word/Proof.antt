@@ -4,8 +4,8 @@ use Rattle.showing.specs.PutLaws.{laws}
 use Rattle.showing.proofs.text.put_word.Statement.{statement}
 use Rattle.showing.proofs.text.put_word.Tie as tie
 
-pub put-word-spec : {M : Type 1} → statement M
-put-word-spec =
+pub put_word_spec : {M : Type 1} → statement M
+put_word_spec =
     tie.close
     (tie.spec
     (λ c κs. search rules)  -- put-known-requires

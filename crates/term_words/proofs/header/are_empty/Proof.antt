@@ -3,8 +3,8 @@ use Rattle.term_words.specs.HeaderLaws.{place-laws}
 use Rattle.term_words.proofs.header.are_empty.Statement.{statement}
 use Rattle.term_words.proofs.header.are_empty.Tie as tie
 
-pub are-empty-spec : {M : Type 1} → statement M
-are-empty-spec = tie.close (tie.spec (λ c. search place-laws)  -- returns
+pub are_empty_spec : {M : Type 1} → statement M
+are_empty_spec = tie.close (tie.spec (λ c. search place-laws)  -- returns
     (λ c. search place-laws)  -- returns-2
     (λ c. search place-laws)  -- returns-3
     )

@@ -3,8 +3,8 @@ use Rattle.term_words.specs.HeaderLaws.{place-laws}
 use Rattle.term_words.proofs.header.are_two.Statement.{statement}
 use Rattle.term_words.proofs.header.are_two.Tie as tie
 
-pub are-two-spec : {M : Type 1} → statement M
-are-two-spec =
+pub are_two_spec : {M : Type 1} → statement M
+are_two_spec =
     tie.close
     (tie.spec (λ c κs. search place-laws)  -- is-variable-requires
     (λ c κs. search place-laws)  -- is-variable-requires-2

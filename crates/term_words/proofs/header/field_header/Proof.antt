@@ -3,8 +3,8 @@ use Rattle.term_words.specs.HeaderLaws.{field_laws}
 use Rattle.term_words.proofs.header.field_header.Statement.{statement}
 use Rattle.term_words.proofs.header.field_header.Tie as tie
 
-pub field-header-spec : {M : Type 1} → statement M
-field-header-spec =
+pub field_header_spec : {M : Type 1} → statement M
+field_header_spec =
     tie.close (tie.spec (λ c κs. search field_laws)  -- is-name-requires
     (λ c κs. search field_laws)  -- is-fresh-requires
     (λ c. search field_laws)  -- returns

@@ -3,8 +3,8 @@ use Rattle.term_words.specs.HeaderLaws.{param_laws}
 use Rattle.term_words.proofs.header.has_parameters.Statement.{statement}
 use Rattle.term_words.proofs.header.has_parameters.Tie as tie
 
-pub has-parameters-spec : {M : Type 1} → statement M
-has-parameters-spec =
+pub has_parameters_spec : {M : Type 1} → statement M
+has_parameters_spec =
     tie.close
     (tie.spec
     (λ c κs. search param_laws)  -- are-empty-requires

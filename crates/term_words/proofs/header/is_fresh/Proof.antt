@@ -3,8 +3,8 @@ use Rattle.term_words.specs.NameLaws.{fresh-laws}
 use Rattle.term_words.proofs.header.is_fresh.Statement.{statement}
 use Rattle.term_words.proofs.header.is_fresh.Tie as tie
 
-pub is-fresh-spec : {M : Type 1} → statement M
-is-fresh-spec =
+pub is_fresh_spec : {M : Type 1} → statement M
+is_fresh_spec =
     tie.close (tie.spec (λ c. search fresh-laws)  -- cast-x
     (λ c. search fresh-laws)  -- returns
     (λ c. search fresh-laws)  -- returns-2

@@ -3,7 +3,7 @@ use Rattle.term_words.specs.HeaderLaws.{place-laws}
 use Rattle.term_words.proofs.header.is_small.Statement.{statement}
 use Rattle.term_words.proofs.header.is_small.Tie as tie
 
-pub is-small-spec : {M : Type 1} → statement M
-is-small-spec = tie.close (tie.spec (λ c. search place-laws)  -- returns
+pub is_small_spec : {M : Type 1} → statement M
+is_small_spec = tie.close (tie.spec (λ c. search place-laws)  -- returns
     (λ c. search place-laws)  -- returns-2
     )

@@ -3,8 +3,8 @@ use Rattle.term_words.specs.HeaderLaws.{place-laws}
 use Rattle.term_words.proofs.header.is_third.Statement.{statement}
 use Rattle.term_words.proofs.header.is_third.Tie as tie
 
-pub is-third-spec : {M : Type 1} → statement M
-is-third-spec = tie.close (tie.spec (λ c κs. search place-laws)  -- is-variable-requires
+pub is_third_spec : {M : Type 1} → statement M
+is_third_spec = tie.close (tie.spec (λ c κs. search place-laws)  -- is-variable-requires
     (λ c. search place-laws)  -- returns
     (λ c. search place-laws)  -- returns-2
     (λ c. search place-laws)  -- returns-3

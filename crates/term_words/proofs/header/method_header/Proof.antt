@@ -3,8 +3,8 @@ use Rattle.term_words.specs.HeaderLaws.{method-laws}
 use Rattle.term_words.proofs.header.method_header.Statement.{statement}
 use Rattle.term_words.proofs.header.method_header.Tie as tie
 
-pub method-header-spec : {M : Type 1} → statement M
-method-header-spec =
+pub method_header_spec : {M : Type 1} → statement M
+method_header_spec =
     tie.close (tie.spec (λ c κs. search method-laws)  -- is-name-requires
     (λ c κs. search method-laws)  -- is-fresh-requires
     (λ c κs. search method-laws)  -- has-parameters-requires

@@ -3,8 +3,8 @@ use Rattle.term_words.specs.NameLaws.{fresh-laws}
 use Rattle.term_words.proofs.header.noted.Statement.{statement}
 use Rattle.term_words.proofs.header.noted.Tie as tie
 
-pub noted-spec : {M : Type 1} → statement M
-noted-spec = tie.close (tie.spec (λ c. search fresh-laws)  -- cast-result
+pub noted_spec : {M : Type 1} → statement M
+noted_spec = tie.close (tie.spec (λ c. search fresh-laws)  -- cast-result
     (λ c. search fresh-laws)  -- mul-result
     (λ c. search fresh-laws)  -- add-result
     (λ c. search fresh-laws)  -- returns

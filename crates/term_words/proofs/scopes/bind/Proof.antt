@@ -3,8 +3,8 @@ use Rattle.term_words.specs.ScopeLaws.{laws}
 use Rattle.term_words.proofs.scopes.bind.Statement.{statement}
 use Rattle.term_words.proofs.scopes.bind.Tie as tie
 
-pub bind-spec : {M : Type 1} → statement M
-bind-spec =
+pub bind_spec : {M : Type 1} → statement M
+bind_spec =
     tie.close
     (tie.spec
     (λ c. search laws)  -- cast-swap

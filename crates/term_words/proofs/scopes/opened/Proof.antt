@@ -3,8 +3,8 @@ use Rattle.term_words.specs.ScopeLaws.{laws}
 use Rattle.term_words.proofs.scopes.opened.Statement.{statement}
 use Rattle.term_words.proofs.scopes.opened.Tie as tie
 
-pub opened-spec : {M : Type 1} → statement M
-opened-spec = tie.close (tie.spec (λ c. search laws)  -- returns
+pub opened_spec : {M : Type 1} → statement M
+opened_spec = tie.close (tie.spec (λ c. search laws)  -- returns
     (λ c. search laws)  -- add-result
     (λ c. search laws)  -- returns-2
     )

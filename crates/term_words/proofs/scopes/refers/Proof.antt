@@ -3,7 +3,7 @@ use Rattle.term_words.specs.ScopeLaws.{laws}
 use Rattle.term_words.proofs.scopes.refers.Statement.{statement}
 use Rattle.term_words.proofs.scopes.refers.Tie as tie
 
-pub refers-spec : {M : Type 1} → statement M
-refers-spec = tie.close (tie.spec (λ c. search laws)  -- returns
+pub refers_spec : {M : Type 1} → statement M
+refers_spec = tie.close (tie.spec (λ c. search laws)  -- returns
     (λ c. search laws)  -- returns-2
     )

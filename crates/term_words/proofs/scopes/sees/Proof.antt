@@ -3,8 +3,8 @@ use Rattle.term_words.specs.ScopeLaws.{laws}
 use Rattle.term_words.proofs.scopes.sees.Statement.{statement}
 use Rattle.term_words.proofs.scopes.sees.Tie as tie
 
-pub sees-spec : {M : Type 1} → statement M
-sees-spec = tie.close (tie.spec (λ c. search laws)  -- mul-if2
+pub sees_spec : {M : Type 1} → statement M
+sees_spec = tie.close (tie.spec (λ c. search laws)  -- mul-if2
     (λ c. search laws)  -- element-copy-out-if2
     (λ c. search laws)  -- returns
     (λ c. search laws)  -- returns-2

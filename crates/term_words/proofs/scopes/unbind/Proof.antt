@@ -3,8 +3,8 @@ use Rattle.term_words.specs.ScopeLaws.{laws}
 use Rattle.term_words.proofs.scopes.unbind.Statement.{statement}
 use Rattle.term_words.proofs.scopes.unbind.Tie as tie
 
-pub unbind-spec : {M : Type 1} → statement M
-unbind-spec =
+pub unbind_spec : {M : Type 1} → statement M
+unbind_spec =
     tie.close
     (tie.spec
     (λ c. search laws)  -- cast-swap

@@ -3,8 +3,8 @@ use Rattle.term_words.specs.WordLaws.{message-laws}
 use Rattle.term_words.proofs.word.call_name.Statement.{statement}
 use Rattle.term_words.proofs.word.call_name.Tie as tie
 
-pub call-name-spec : {M : Type 1} → statement M
-call-name-spec = tie.close (tie.spec (λ c κs. search message-laws)  -- named-requires
+pub call_name_spec : {M : Type 1} → statement M
+call_name_spec = tie.close (tie.spec (λ c κs. search message-laws)  -- named-requires
     (λ c κs. search message-laws)  -- lone-requires
     (λ c. search message-laws)  -- returns
     (λ c. search message-laws)  -- returns-2

@@ -3,8 +3,8 @@ use Rattle.term_words.specs.WordLaws.{kind-laws}
 use Rattle.term_words.proofs.word.kind_of.Statement.{statement}
 use Rattle.term_words.proofs.word.kind_of.Tie as tie
 
-pub kind-of-spec : {M : Type 1} → statement M
-kind-of-spec =
+pub kind_of_spec : {M : Type 1} → statement M
+kind_of_spec =
     tie.close
     (tie.spec
     (λ c. search kind-laws)  -- returns

@@ -3,8 +3,8 @@ use Rattle.term_words.specs.WordLaws.{named-laws}
 use Rattle.term_words.proofs.word.named.Statement.{statement}
 use Rattle.term_words.proofs.word.named.Tie as tie
 
-pub named-spec : {M : Type 1} → statement M
-named-spec = tie.close (tie.spec (λ c κs. search named-laws)  -- is-name-requires
+pub named_spec : {M : Type 1} → statement M
+named_spec = tie.close (tie.spec (λ c κs. search named-laws)  -- is-name-requires
     (λ c. search named-laws)  -- returns
     (λ c. search named-laws)  -- returns-2
     (λ c. search named-laws)  -- returns-3

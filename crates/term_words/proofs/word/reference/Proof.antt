@@ -3,8 +3,8 @@ use Rattle.term_words.specs.WordLaws.{reference-laws}
 use Rattle.term_words.proofs.word.reference.Statement.{statement}
 use Rattle.term_words.proofs.word.reference.Tie as tie
 
-pub reference-spec : {M : Type 1} → statement M
-reference-spec = tie.close (tie.spec (λ c κs. search reference-laws)  -- kind-of-requires
+pub reference_spec : {M : Type 1} → statement M
+reference_spec = tie.close (tie.spec (λ c κs. search reference-laws)  -- kind-of-requires
     (λ c. search reference-laws)  -- returns
     (λ c. search reference-laws)  -- returns-2
     (λ c. search reference-laws)  -- returns-3

@@ -4,8 +4,8 @@ use lib.Seq.{length-take-le}
 use Rattle.test_calls.proofs.buffers.list_part.Statement.{statement}
 use Rattle.test_calls.proofs.buffers.list_part.Tie as tie
 
-pub list-part-spec : {M : Type 1} → statement M
-list-part-spec =
+pub list_part_spec : {M : Type 1} → statement M
+list_part_spec =
     tie.close
     (tie.spec
     (λ c. search rules)  -- returns

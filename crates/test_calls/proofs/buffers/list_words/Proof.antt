@@ -4,8 +4,8 @@ use lib.Seq.{length-take-le}
 use Rattle.test_calls.proofs.buffers.list_words.Statement.{statement}
 use Rattle.test_calls.proofs.buffers.list_words.Tie as tie
 
-pub list-words-spec : {M : Type 1} → statement M
-list-words-spec =
+pub list_words_spec : {M : Type 1} → statement M
+list_words_spec =
     tie.close
     (tie.spec
     (λ c. search rules)  -- returns

@@ -4,8 +4,8 @@ use lib.Seq.{length-take-le}
 use Rattle.test_calls.proofs.buffers.load_cut.Statement.{statement}
 use Rattle.test_calls.proofs.buffers.load_cut.Tie as tie
 
-pub load-cut-spec : {M : Type 1} → statement M
-load-cut-spec =
+pub load_cut_spec : {M : Type 1} → statement M
+load_cut_spec =
     tie.close
     (tie.spec
     (λ c. search rules)  -- returns

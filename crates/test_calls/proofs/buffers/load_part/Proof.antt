@@ -4,8 +4,8 @@ use lib.Seq.{length-take-le}
 use Rattle.test_calls.proofs.buffers.load_part.Statement.{statement}
 use Rattle.test_calls.proofs.buffers.load_part.Tie as tie
 
-pub load-part-spec : {M : Type 1} → statement M
-load-part-spec =
+pub load_part_spec : {M : Type 1} → statement M
+load_part_spec =
     tie.close
     (tie.spec
     (λ c. search rules)  -- returns

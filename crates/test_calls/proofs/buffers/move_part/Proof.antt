@@ -4,8 +4,8 @@ use lib.Seq.{length-take-le}
 use Rattle.test_calls.proofs.buffers.move_part.Statement.{statement}
 use Rattle.test_calls.proofs.buffers.move_part.Tie as tie
 
-pub move-part-spec : {M : Type 1} → statement M
-move-part-spec =
+pub move_part_spec : {M : Type 1} → statement M
+move_part_spec =
     tie.close
     (tie.spec
     (λ c. search rules)  -- returns

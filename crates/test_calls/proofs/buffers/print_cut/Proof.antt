@@ -4,8 +4,8 @@ use lib.Seq.{length-take-le}
 use Rattle.test_calls.proofs.buffers.print_cut.Statement.{statement}
 use Rattle.test_calls.proofs.buffers.print_cut.Tie as tie
 
-pub print-cut-spec : {M : Type 1} → statement M
-print-cut-spec =
+pub print_cut_spec : {M : Type 1} → statement M
+print_cut_spec =
     tie.close
     (tie.spec
     (λ c. search rules)  -- returns

@@ -4,8 +4,8 @@ use lib.Seq.{length-take-le}
 use Rattle.test_calls.proofs.buffers.print_part.Statement.{statement}
 use Rattle.test_calls.proofs.buffers.print_part.Tie as tie
 
-pub print-part-spec : {M : Type 1} → statement M
-print-part-spec =
+pub print_part_spec : {M : Type 1} → statement M
+print_part_spec =
     tie.close
     (tie.spec
     (λ c. search rules)  -- returns

@@ -4,8 +4,8 @@ use lib.Seq.{length-take-le}
 use Rattle.test_calls.proofs.buffers.run_part.Statement.{statement}
 use Rattle.test_calls.proofs.buffers.run_part.Tie as tie
 
-pub run-part-spec : {M : Type 1} → statement M
-run-part-spec =
+pub run_part_spec : {M : Type 1} → statement M
+run_part_spec =
     tie.close
     (tie.spec
     (λ c. search rules)  -- returns

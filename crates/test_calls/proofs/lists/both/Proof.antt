@@ -4,8 +4,8 @@ use lib.Seq.{length-take-le}
 use Rattle.test_calls.proofs.lists.both.Statement.{statement}
 use Rattle.test_calls.proofs.lists.both.Tie as tie
 
-pub both-spec : {M : Type 1} → statement M
-both-spec =
+pub both_spec : {M : Type 1} → statement M
+both_spec =
     tie.close
     (tie.spec
     (λ c. search rules)  -- slice-aggregate-read

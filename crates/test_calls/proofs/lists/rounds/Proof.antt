@@ -12,8 +12,8 @@ invariant-loop state₀ entries n i₀ state i = (i ≤ n) × (length state ≡ 
 abbrev decreases-loop : tie.decreases-loop
 decreases-loop state₀ entries n i₀ state i = n - i
 
-pub rounds-spec : {M : Type 1} → statement M
-rounds-spec =
+pub rounds_spec : {M : Type 1} → statement M
+rounds_spec =
     tie.close
     (tie.spec
     invariant-loop

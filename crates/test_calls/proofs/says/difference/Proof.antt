@@ -11,8 +11,8 @@ invariant-loop words before from i₀ i = from ≤ i
 abbrev decreases-loop : tie.decreases-loop
 decreases-loop words before from i₀ i = length words - i
 
-pub difference-spec : {M : Type 1} → statement M
-difference-spec =
+pub difference_spec : {M : Type 1} → statement M
+difference_spec =
     tie.close
     (tie.spec
     invariant-loop

@@ -11,8 +11,8 @@ invariant-loop text from i₀ i = from ≤ i
 abbrev decreases-loop : tie.decreases-loop
 decreases-loop text from i₀ i = length text - i
 
-pub written-spec : {M : Type 1} → statement M
-written-spec =
+pub written_spec : {M : Type 1} → statement M
+written_spec =
     tie.close
     (tie.spec
     invariant-loop

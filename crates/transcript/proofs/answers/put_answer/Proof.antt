@@ -3,8 +3,8 @@ use Rattle.transcript.specs.AnswerTexts.{laws}
 use Rattle.transcript.proofs.answers.put_answer.Statement.{statement}
 use Rattle.transcript.proofs.answers.put_answer.Tie as tie
 
-pub put-answer-spec : {M : Type 1} → statement M
-put-answer-spec =
+pub put_answer_spec : {M : Type 1} → statement M
+put_answer_spec =
     tie.close
     (tie.spec
     (λ c. search laws)  -- enum-told

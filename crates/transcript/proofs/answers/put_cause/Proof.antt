@@ -3,8 +3,8 @@ use Rattle.transcript.specs.AnswerTexts.{laws}
 use Rattle.transcript.proofs.answers.put_cause.Statement.{statement}
 use Rattle.transcript.proofs.answers.put_cause.Tie as tie
 
-pub put-cause-spec : {M : Type 1} → statement M
-put-cause-spec = tie.close (tie.spec (λ c κs. search laws)  -- wide-requires
+pub put_cause_spec : {M : Type 1} → statement M
+put_cause_spec = tie.close (tie.spec (λ c κs. search laws)  -- wide-requires
     (λ c κs. search laws)  -- put-number-requires
     (λ c. search laws)  -- same-length
     (λ c. search laws)  -- returns

@@ -3,8 +3,8 @@ use Rattle.transcript.specs.AnswerTexts.{laws}
 use Rattle.transcript.proofs.answers.put_named.Statement.{statement}
 use Rattle.transcript.proofs.answers.put_named.Tie as tie
 
-pub put-named-spec : {M : Type 1} → statement M
-put-named-spec =
+pub put_named_spec : {M : Type 1} → statement M
+put_named_spec =
     tie.close (tie.spec (λ c κs. search laws)  -- wide-requires
     (λ c κs. search laws)  -- put-requires
     (λ c κs. search laws)  -- put-number-requires

@@ -3,8 +3,8 @@ use Rattle.transcript.specs.AnswerTexts.{laws}
 use Rattle.transcript.proofs.answers.put_space.Statement.{statement}
 use Rattle.transcript.proofs.answers.put_space.Tie as tie
 
-pub put-space-spec : {M : Type 1} → statement M
-put-space-spec = tie.close (tie.spec (λ c. search laws)  -- returns
+pub put_space_spec : {M : Type 1} → statement M
+put_space_spec = tie.close (tie.spec (λ c. search laws)  -- returns
     (λ c κs. search laws)  -- put-requires
     (λ c. search laws)  -- same-length
     (λ c. search laws)  -- returns-2

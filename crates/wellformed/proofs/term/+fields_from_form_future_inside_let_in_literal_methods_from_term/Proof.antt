@@ -145,9 +145,9 @@ term-Inv-loop w at scope₀ kinds e i₀ left₀ scope i left =
 abbrev term-μ-loop : term-lts.decreases-loop
 term-μ-loop w at scope₀ kinds e i₀ left₀ scope i left = length w - i
 
-pub +fields-from-form-future-inside-let-in-literal-methods-from-term-spec :
+pub +fields_from_form_future_inside_let_in_literal_methods_from_term_spec :
     {M : Type 1} → statement M
-+fields-from-form-future-inside-let-in-literal-methods-from-term-spec =
++fields_from_form_future_inside_let_in_literal_methods_from_term_spec =
     close
     μ-fields-from
     μ-form

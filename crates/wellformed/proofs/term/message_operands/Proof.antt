@@ -3,8 +3,8 @@ use Rattle.wellformed.specs.FormLaws.{operand-laws}
 use Rattle.wellformed.proofs.term.message_operands.Statement.{statement}
 use Rattle.wellformed.proofs.term.message_operands.Tie as tie
 
-pub message-operands-spec : {M : Type 1} → statement M
-message-operands-spec =
+pub message_operands_spec : {M : Type 1} → statement M
+message_operands_spec =
     tie.close
     (tie.spec
     (λ c κs. search operand-laws)  -- arguments-requires

@@ -3,8 +3,8 @@ use Rattle.wellformed.specs.FormLaws.{operand-laws}
 use Rattle.wellformed.proofs.term.operands.Statement.{statement}
 use Rattle.wellformed.proofs.term.operands.Tie as tie
 
-pub operands-spec : {M : Type 1} → statement M
-operands-spec =
+pub operands_spec : {M : Type 1} → statement M
+operands_spec =
     tie.close
     (tie.spec
     (λ c κs. search operand-laws)  -- operator-requires
