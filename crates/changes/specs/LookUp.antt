@@ -70,6 +70,7 @@ known-stands (method k xs e M) m n h = go (known-stands M m n) (same_signature (
 pub invoke-found : {k : ℕ} {xs : List ℕ} {e : Term} (M : Methods) (v : Value) (vs : List Value) → distinct_by same_signature (signatures M) ≡ true
     → Stands k xs e M → length xs ≡ length vs → invoke M k v vs ≡ done (subst this (val v) (subst_params xs vs e))
 unfolding invoke signatures distinct_by if◌then◌else◌
+invoke-found {k} {xs} {e} no_method v vs d x l = elim x [ ]
 invoke-found {k} {xs} {e} (method _ _ _ M) v vs d first l = rw (sym l, same_signature_lem (k, length xs)) refl
 invoke-found {k} {xs} {e} (method j ys b M) v vs d (later s) l =
     let r = and₂ (not (knows M (j, length ys))) (distinct_by same_signature (signatures M)) d in

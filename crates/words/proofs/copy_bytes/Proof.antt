@@ -6,24 +6,24 @@ use Rattle.words.specs.Runs.{laws, Copied}
 use Rattle.words.proofs.copy_bytes.Statement.{statement}
 use Rattle.words.proofs.copy_bytes.Tie as tie
 
-abbrev invariant-loop : tie.invariant-loop
-invariant-loop from n to₀ i₀ to i = Copied from i to₀ to × (i ≤ n) × (length to ≡ length to₀)
+abbrev invariant-loop-i : tie.invariant-loop-i
+invariant-loop-i from n to₀ i₀ to i = Copied from i to₀ to × (i ≤ n) × (length to ≡ length to₀)
 
-abbrev decreases-loop : tie.decreases-loop
-decreases-loop from n to₀ i₀ to i = n - i
+abbrev decreases-loop-i : tie.decreases-loop-i
+decreases-loop-i from n to₀ i₀ to i = n - i
 
 pub copy_bytes_spec : {M : Type 1} → statement M
 copy_bytes_spec =
     tie.close
     (tie.spec
-    invariant-loop
-    decreases-loop
-    (λ c. search laws)  -- loop-holds
-    (λ c. search laws)  -- shared-slice-read-to
-    (λ c. search laws)  -- slice-write-to
-    (λ c. search laws)  -- add-i
-    (λ c. search laws)  -- loop-less
-    (λ c. search laws)  -- loop-again
-    (λ c. search laws)  -- same-length
+    invariant-loop-i
+    decreases-loop-i
+    (λ c. search laws)  -- loop-i-init
+    (λ c. search laws)  -- bounds-from-i
+    (λ c. search laws)  -- bounds-to-i
+    (λ c. search laws)  -- overflow_add-i
+    (λ c. search laws)  -- loop-i-smaller
+    (λ c. search laws)  -- loop-i-preserved
+    (λ c. search laws)  -- shape_of-to
     (λ c. search laws)  -- returns
     )

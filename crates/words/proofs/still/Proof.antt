@@ -4,6 +4,6 @@ use Rattle.words.proofs.still.Statement.{statement}
 use Rattle.words.proofs.still.Tie as tie
 
 pub still_spec : {M : Type 1} → statement M
-still_spec = tie.close (tie.spec (λ c. search laws)  -- returns
-    (λ c. search laws)  -- returns-2
+still_spec = tie.close (tie.spec (λ c. search laws)  -- returns-then-x-y
+    (λ c. search laws)  -- returns
     )
