@@ -10,17 +10,17 @@ unfolding move_answer cause place kind_of other_of
 moved_spec =
     tie.close
     (tie.spec
-    (λ c. search rules)  -- enum-told
-    (λ c. search rules)  -- enum-told-2
-    (λ c. search rules)  -- enum-known-to
-    (λ c. search rules)  -- cast-other
-    (λ c. search rules)  -- enum-known-new
-    (λ c. search rules)  -- cast-other-2
-    (λ c. search rules)  -- enum-known-n
-    (λ c. search rules)  -- cast-result
-    (λ c. (search rules, (search rules, search rules)))  -- returns
-    (λ c. (search rules, (search rules, search rules)))  -- returns-2
-    (λ c. (search rules, (search rules, search rules)))  -- returns-3
-    (λ c. (search rules, (search rules, search rules)))  -- returns-4
-    (λ c. (search rules, (search rules, search rules)))  -- returns-5
+    (λ c. search rules)  -- enum_told-1
+    (λ c. search rules)  -- enum_told-in-Taken
+    (λ c. search rules)  -- enum_known-answer
+    (λ c. search rules)  -- overflow_cast-other
+    (λ c. search rules)  -- enum_known-answer-in-Created-1
+    (λ c. search rules)  -- overflow_cast-other-in-Created
+    (λ c. search rules)  -- enum_known-answer-in-Refused-1
+    (λ c. search rules)  -- overflow_cast-result
+    (λ c. (search rules, (search rules, search rules)))  -- returns-in-Inner
+    (λ c. (search rules, (search rules, search rules)))  -- returns-in-Taken
+    (λ c. (search rules, (search rules, search rules)))  -- returns-in-Sent
+    (λ c. (search rules, (search rules, search rules)))  -- returns-in-Created
+    (λ c. (search rules, (search rules, search rules)))  -- returns-in-Refused
     )

@@ -10,9 +10,9 @@ unfolding print_answer cause place itself
 printed_spec =
     tie.close
     (tie.spec
-    (λ c. search rules)  -- enum-known-printed
-    (λ c. search rules)  -- enum-known-n
-    (λ c. search rules)  -- cast-result
-    (λ c. search rules)  -- returns
-    (λ c. search rules)  -- returns-2
+    (λ c. search rules)  -- enum_known-answer
+    (λ c. search rules)  -- enum_known-answer-in-Refused-1
+    (λ c. search rules)  -- overflow_cast-result
+    (λ c. search rules)  -- returns-in-Bytes
+    (λ c. search rules)  -- returns-in-Refused
     )

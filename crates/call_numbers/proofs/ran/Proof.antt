@@ -10,9 +10,9 @@ unfolding run_answer cause place moves_of refusals_of
 ran_spec =
     tie.close
     (tie.spec
-    (λ c. search rules)  -- enum-known-made
-    (λ c. search rules)  -- enum-known-n
-    (λ c. search rules)  -- cast-result
-    (λ c. (search rules, (search rules, search rules)))  -- returns
-    (λ c. (search rules, (search rules, search rules)))  -- returns-2
+    (λ c. search rules)  -- enum_known-answer
+    (λ c. search rules)  -- enum_known-answer-in-Refused-1
+    (λ c. search rules)  -- overflow_cast-result
+    (λ c. (search rules, (search rules, search rules)))  -- returns-in-Entries
+    (λ c. (search rules, (search rules, search rules)))  -- returns-in-Refused
     )

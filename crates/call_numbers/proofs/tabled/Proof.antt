@@ -10,9 +10,9 @@ unfolding read_answer cause
 tabled_spec =
     tie.close
     (tie.spec
-    (λ c. search rules)  -- enum-told
-    (λ c. search rules)  -- enum-known-n
-    (λ c. search rules)  -- cast-result
-    (λ c. search rules)  -- returns
-    (λ c. search rules)  -- returns-2
+    (λ c. search rules)  -- enum_told-1
+    (λ c. search rules)  -- enum_known-answer
+    (λ c. search rules)  -- overflow_cast-result
+    (λ c. search rules)  -- returns-in-Done
+    (λ c. search rules)  -- returns-in-Refused
     )

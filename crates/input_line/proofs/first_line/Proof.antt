@@ -5,24 +5,24 @@ use Rattle.input_line.specs.Lines.{Looking, laws}
 use Rattle.input_line.proofs.first_line.Statement.{statement}
 use Rattle.input_line.proofs.first_line.Tie as tie
 
-abbrev invariant-loop : tie.invariant-loop
-invariant-loop input i₀ i = Looking input i
+abbrev invariant-loop-i : tie.invariant-loop-i
+invariant-loop-i input i₀ i = Looking input i
 
-abbrev decreases-loop : tie.decreases-loop
-decreases-loop input i₀ i = length input - i
+abbrev decreases-loop-i : tie.decreases-loop-i
+decreases-loop-i input i₀ i = length input - i
 
 pub first_line_spec : {M : Type 1} → statement M
 first_line_spec =
     tie.close
     (tie.spec
-    invariant-loop
-    decreases-loop
-    (λ c. search laws)  -- loop-holds
-    (λ c. search laws)  -- shared-slice-read-if1
+    invariant-loop-i
+    decreases-loop-i
+    (λ c. search laws)  -- loop-i-init
+    (λ c. search laws)  -- bounds-input-i
+    (λ c. search laws)  -- returns-then-input-i-eq10
+    (λ c. search laws)  -- returns-then-i-ge-LONGEST
+    (λ c. search laws)  -- overflow_add-i
+    (λ c. search laws)  -- loop-i-smaller
+    (λ c. search laws)  -- loop-i-preserved
     (λ c. search laws)  -- returns
-    (λ c. search laws)  -- returns-2
-    (λ c. search laws)  -- add-i
-    (λ c. search laws)  -- loop-less
-    (λ c. search laws)  -- loop-again
-    (λ c. search laws)  -- returns-3
     )

@@ -7,13 +7,12 @@ pub note_spec : {M : Type 1} → statement M
 note_spec =
     tie.close
     (tie.spec
-    (λ c κs. search laws)
-    (λ c. search laws)
-    (λ c κs. search laws)
-    (λ c. search laws)
-    (λ c κs. search laws)
-    (λ c. search laws)
-    (λ c. search laws)
-    (λ c. search laws)
-    (λ c. search laws)
+    (λ c κs. search laws)  -- is_word-requires
+    (λ c κs. search laws)  -- named-requires
+    (λ c. search laws)  -- returns-then-named
+    (λ c κs. search laws)  -- add-requires
+    (λ c. search laws)  -- shape_of-low-then-is_word
+    (λ c. search laws)  -- shape_of-high-then-is_word
+    (λ c. search laws)  -- returns-then-is_word
+    (λ c. search laws)  -- returns
     )

@@ -7,18 +7,18 @@ use Rattle.scan.specs.DictionaryLaws.{laws}
 use Rattle.scan.proofs.runs.Statement.{statement}
 use Rattle.scan.proofs.runs.Tie as tie
 
-abbrev invariant-loop : tie.invariant-loop
-invariant-loop text low₀ high₀ s₀ at₀ low high s at = Scanning text at low high s.count s.apply × (length low ≡ 2048) × (length high ≡ 2048)
+abbrev invariant-loop-at : tie.invariant-loop-at
+invariant-loop-at text low₀ high₀ s₀ at₀ low high s at = Scanning text at low high s.count s.apply × (length low ≡ 2048) × (length high ≡ 2048)
 
-abbrev decreases-loop : tie.decreases-loop
-decreases-loop text low₀ high₀ s₀ at₀ low high s at = length text - at
+abbrev decreases-loop-at : tie.decreases-loop-at
+decreases-loop-at text low₀ high₀ s₀ at₀ low high s at = length text - at
 
 pub runs_spec : {M : Type 1} → statement M
 runs_spec =
     tie.close
     (tie.spec
-    invariant-loop
-    decreases-loop
+    invariant-loop-at
+    decreases-loop-at
     (λ c. search laws)
     (λ c κs. search laws)
     (λ c κs. search laws)

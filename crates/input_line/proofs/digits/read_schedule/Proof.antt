@@ -5,28 +5,28 @@ use Rattle.input_line.specs.Schedules.{Scheduling, reading}
 use Rattle.input_line.proofs.digits.read_schedule.Statement.{statement}
 use Rattle.input_line.proofs.digits.read_schedule.Tie as tie
 
-abbrev invariant-loop : tie.invariant-loop
-invariant-loop line entries₀ i₀ entries i = Scheduling line entries i
+abbrev invariant-loop-i : tie.invariant-loop-i
+invariant-loop-i line entries₀ i₀ entries i = Scheduling line entries i
 
-abbrev decreases-loop : tie.decreases-loop
-decreases-loop line entries₀ i₀ entries i = length line - i
+abbrev decreases-loop-i : tie.decreases-loop-i
+decreases-loop-i line entries₀ i₀ entries i = length line - i
 
 pub read_schedule_spec : {M : Type 1} → statement M
 read_schedule_spec =
     tie.close
     (tie.spec
-    invariant-loop
-    decreases-loop
-    (λ c. search reading)  -- loop-holds
-    (λ c. search reading)  -- shared-slice-read-b
-    (λ c. search reading)  -- same-length
+    invariant-loop-i
+    decreases-loop-i
+    (λ c. search reading)  -- loop-i-init
+    (λ c. search reading)  -- bounds-line-i
+    (λ c. search reading)  -- shape_of-entries-then-b-lt48
+    (λ c. search reading)  -- returns-then-b-lt48
+    (λ c. search reading)  -- shape_of-entries-then-b-gt51
+    (λ c. search reading)  -- returns-then-b-gt51
+    (λ c. search reading)  -- bounds-entries-i
+    (λ c. search reading)  -- overflow_add-i
+    (λ c. search reading)  -- loop-i-smaller
+    (λ c. search reading)  -- loop-i-preserved
+    (λ c. search reading)  -- shape_of-entries
     (λ c. search reading)  -- returns
-    (λ c. search reading)  -- same-length-2
-    (λ c. search reading)  -- returns-2
-    (λ c. search reading)  -- slice-write-entries
-    (λ c. search reading)  -- add-i
-    (λ c. search reading)  -- loop-less
-    (λ c. search reading)  -- loop-again
-    (λ c. search reading)  -- same-length-3
-    (λ c. search reading)  -- returns-3
     )

@@ -6,18 +6,18 @@ use Rattle.scan.specs.RunLaws.{laws}
 use Rattle.scan.proofs.bytes.run_end.Statement.{statement}
 use Rattle.scan.proofs.bytes.run_end.Tie as tie
 
-abbrev invariant-loop : tie.invariant-loop
-invariant-loop text at i₀ i = Passed text at i
+abbrev invariant-loop-i : tie.invariant-loop-i
+invariant-loop-i text at i₀ i = Passed text at i
 
-abbrev decreases-loop : tie.decreases-loop
-decreases-loop text at i₀ i = length text - i
+abbrev decreases-loop-i : tie.decreases-loop-i
+decreases-loop-i text at i₀ i = length text - i
 
 pub run_end_spec : {M : Type 1} → statement M
 run_end_spec =
     tie.close
     (tie.spec
-    invariant-loop
-    decreases-loop
+    invariant-loop-i
+    decreases-loop-i
     (λ c. search laws)
     (λ c. search laws)
     (λ c κs. search laws)

@@ -6,18 +6,18 @@ use Rattle.scan.specs.RunLaws.{laws}
 use Rattle.scan.proofs.bytes.starts.Statement.{statement}
 use Rattle.scan.proofs.bytes.starts.Tie as tie
 
-abbrev invariant-loop : tie.invariant-loop
-invariant-loop text at w i₀ i = Begun text at w i
+abbrev invariant-loop-i : tie.invariant-loop-i
+invariant-loop-i text at w i₀ i = Begun text at w i
 
-abbrev decreases-loop : tie.decreases-loop
-decreases-loop text at w i₀ i = length w - i
+abbrev decreases-loop-i : tie.decreases-loop-i
+decreases-loop-i text at w i₀ i = length w - i
 
 pub starts_spec : {M : Type 1} → statement M
 starts_spec =
     tie.close
     (tie.spec
-    invariant-loop
-    decreases-loop
+    invariant-loop-i
+    decreases-loop-i
     (λ c. search laws)
     (λ c. search laws)
     (λ c. search laws)

@@ -5,18 +5,18 @@ use Rattle.scan.specs.WordNumberLaws.{laws}
 use Rattle.scan.proofs.codes.find.Statement.{statement}
 use Rattle.scan.proofs.codes.find.Tie as tie
 
-abbrev invariant-loop : tie.invariant-loop
-invariant-loop low high count l h i₀ i = Sought low high count l h i × (i ≤ count)
+abbrev invariant-loop-i : tie.invariant-loop-i
+invariant-loop-i low high count l h i₀ i = Sought low high count l h i × (i ≤ count)
 
-abbrev decreases-loop : tie.decreases-loop
-decreases-loop low high count l h i₀ i = count - i
+abbrev decreases-loop-i : tie.decreases-loop-i
+decreases-loop-i low high count l h i₀ i = count - i
 
 pub find_spec : {M : Type 1} → statement M
 find_spec =
     tie.close
     (tie.spec
-    invariant-loop
-    decreases-loop
+    invariant-loop-i
+    decreases-loop-i
     (λ c. search laws)
     (λ c. search laws)
     (λ c. search laws)

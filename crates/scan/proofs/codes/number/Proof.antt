@@ -4,18 +4,18 @@ use Rattle.scan.specs.WordNumberLaws.{laws}
 use Rattle.scan.proofs.codes.number.Statement.{statement}
 use Rattle.scan.proofs.codes.number.Tie as tie
 
-abbrev invariant-loop : tie.invariant-loop
-invariant-loop text at end i₀ n₀ i n = Numbered text at end i n
+abbrev invariant-loop-i : tie.invariant-loop-i
+invariant-loop-i text at end i₀ n₀ i n = Numbered text at end i n
 
-abbrev decreases-loop : tie.decreases-loop
-decreases-loop text at end i₀ n₀ i n = i
+abbrev decreases-loop-i : tie.decreases-loop-i
+decreases-loop-i text at end i₀ n₀ i n = i
 
 pub number_spec : {M : Type 1} → statement M
 number_spec =
     tie.close
     (tie.spec
-    invariant-loop
-    decreases-loop
+    invariant-loop-i
+    decreases-loop-i
     (λ c. search laws)
     (λ c. search laws)
     (λ c. search laws)

@@ -9,26 +9,19 @@ unfolding Compared
 other_spec =
     tie.close
     (tie.spec
-    (λ c. search laws)  -- slice-aggregate-named
     (λ c κs. search laws)  -- named-requires
-    (λ c. search laws)  -- returns
-    (λ c. search laws)  -- slice-aggregate-named-2
+    (λ c. search laws)  -- returns-then-named
     (λ c κs. search laws)  -- named-requires-2
-    (λ c. search laws)  -- returns-2
-    (λ c. search laws)  -- slice-aggregate-named-3
+    (λ c. search laws)  -- returns-then-named-2
     (λ c κs. search laws)  -- named-requires-3
-    (λ c. search laws)  -- returns-3
-    (λ c. search laws)  -- slice-aggregate-named-4
+    (λ c. search laws)  -- returns-then-named-3
     (λ c κs. search laws)  -- named-requires-4
-    (λ c. search laws)  -- returns-4
-    (λ c. search laws)  -- slice-aggregate-named-5
+    (λ c. search laws)  -- returns-then-named-4
     (λ c κs. search laws)  -- named-requires-5
-    (λ c. search laws)  -- returns-5
-    (λ c. search laws)  -- slice-aggregate-named-6
+    (λ c. search laws)  -- returns-then-named-5
     (λ c κs. search laws)  -- named-requires-6
-    (λ c. search laws)  -- returns-6
-    (λ c. search laws)  -- slice-aggregate-named-7
+    (λ c. search laws)  -- returns-then-named-6
     (λ c κs. search laws)  -- named-requires-7
-    (λ c. search laws)  -- returns-7
-    (λ c. keyword-not _ others (search laws) (search laws, (search laws, (search laws, (search laws, (search laws, (search laws, (search laws, tt))))))))  -- returns-8
+    (λ c. search laws)  -- returns-then-named-7
+    (λ c. keyword-not _ others (search laws) (search laws, (search laws, (search laws, (search laws, (search laws, (search laws, (search laws, tt))))))))  -- returns
     )

@@ -9,14 +9,11 @@ unfolding Compared
 seven_spec =
     tie.close
     (tie.spec
-    (λ c. search laws)  -- slice-aggregate-named
     (λ c κs. search laws)  -- named-requires
-    (λ c. search laws)  -- returns
-    (λ c. search laws)  -- slice-aggregate-named-2
+    (λ c. search laws)  -- returns-then-named
     (λ c κs. search laws)  -- named-requires-2
-    (λ c. search laws)  -- returns-2
-    (λ c. search laws)  -- slice-aggregate-named-3
+    (λ c. search laws)  -- returns-then-named-2
     (λ c κs. search laws)  -- named-requires-3
-    (λ c. search laws)  -- returns-3
-    (λ c. keyword-not _ (eqb 7) (search laws) (search laws, (search laws, (search laws, tt))))  -- returns-4
+    (λ c. search laws)  -- returns-then-named-3
+    (λ c. keyword-not _ (eqb 7) (search laws) (search laws, (search laws, (search laws, tt))))  -- returns
     )

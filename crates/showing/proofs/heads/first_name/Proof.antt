@@ -10,13 +10,13 @@ unfolding first_in
 first_name_spec =
     tie.close
     (tie.spec
-    (λ c. search rules)  -- cast-result
-    (λ c. search names)  -- returns
-    (λ c. search rules)  -- cast-result-2
-    (λ c. search rules)  -- cast-result-3
-    (λ c. search rules)  -- cast-result-4
-    (λ c. search names)  -- returns-2
-    (λ c. search names)  -- returns-3
-    (λ c. search names)  -- returns-4
-    (λ c. search names)  -- returns-5
+    (λ c. search rules)  -- overflow_cast-result
+    (λ c. search names)  -- returns-then-k-ge128
+    (λ c. search rules)  -- overflow_cast-result-in-11
+    (λ c. search rules)  -- overflow_cast-result-in-12
+    (λ c. search rules)  -- overflow_cast-result-in-65
+    (λ c. search names)  -- returns-in-11
+    (λ c. search names)  -- returns-in-12
+    (λ c. search names)  -- returns-in-65
+    (λ c. search names)  -- returns-in_default
     )

@@ -12,15 +12,15 @@ name_after_spec =
     tie.close
     (tie.spec
     (λ c κs. search rules)  -- operator-requires
-    (λ c. search rules)  -- cast-result
-    (λ c. search names)  -- returns
-    (λ c. search rules)  -- cast-result-2
-    (λ c. search rules)  -- cast-result-3
-    (λ c. search rules)  -- cast-result-4
-    (λ c. search rules)  -- cast-result-5
-    (λ c. search names)  -- returns-2
-    (λ c. search names)  -- returns-3
-    (λ c. search names)  -- returns-4
-    (λ c. search names)  -- returns-5
-    (λ c. search names)  -- returns-6
+    (λ c. search rules)  -- overflow_cast-result
+    (λ c. search names)  -- returns-then-operator-eq2
+    (λ c. search rules)  -- overflow_cast-result-in-13
+    (λ c. search rules)  -- overflow_cast-result-in-14
+    (λ c. search rules)  -- overflow_cast-result-in-64
+    (λ c. search rules)  -- overflow_cast-result-in-67
+    (λ c. search names)  -- returns-in-13
+    (λ c. search names)  -- returns-in-14
+    (λ c. search names)  -- returns-in-64
+    (λ c. search names)  -- returns-in-67
+    (λ c. search names)  -- returns-in_default
     )

@@ -8,12 +8,12 @@ pub put_head_spec : {M : Type 1} → statement M
 put_head_spec =
     tie.close
     (tie.spec
-    (λ c κs. search rules)  -- first-name-requires
-    (λ c κs. search rules)  -- second-name-requires
-    (λ c κs. search rules)  -- put-operator-requires
-    (λ c κs. search rules)  -- put-name-requires
-    (λ c κs. search rules)  -- put-name-requires-2
-    (λ c κs. search rules)  -- put-params-requires
-    (λ c. search rules)  -- same-length
+    (λ c κs. search rules)  -- first_name-x-requires
+    (λ c κs. search rules)  -- second_name-y-requires
+    (λ c κs. search rules)  -- put_operator-a-requires
+    (λ c κs. search rules)  -- put_name-b-requires
+    (λ c κs. search rules)  -- put_name-c-requires
+    (λ c κs. search rules)  -- put_params-requires
+    (λ c. search rules)  -- shape_of-out
     (λ c. search head-whole)  -- returns
     )

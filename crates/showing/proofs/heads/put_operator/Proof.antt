@@ -8,11 +8,11 @@ pub put_operator_spec : {M : Type 1} → statement M
 put_operator_spec =
     tie.close
     (tie.spec
-    (λ c κs. search rules)  -- put-requires
-    (λ c κs. search rules)  -- put-keyword-requires
-    (λ c. search rules)  -- same-length
+    (λ c κs. search rules)  -- put-p-requires
+    (λ c κs. search rules)  -- put_keyword-requires
+    (λ c. search rules)  -- shape_of-out-then-k-gt192
+    (λ c. search laws)  -- returns-then-k-gt192
+    (λ c κs. search rules)  -- put_keyword-requires-2
+    (λ c. search rules)  -- shape_of-out
     (λ c. search laws)  -- returns
-    (λ c κs. search rules)  -- put-keyword-requires-2
-    (λ c. search rules)  -- same-length-2
-    (λ c. search laws)  -- returns-2
     )

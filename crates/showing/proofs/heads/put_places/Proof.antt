@@ -8,10 +8,10 @@ pub put_places_spec : {M : Type 1} → statement M
 put_places_spec =
     tie.close
     (tie.spec
-    (λ c κs. search rules)  -- put-open-requires
-    (λ c κs. search rules)  -- put-name-requires
-    (λ c κs. search rules)  -- put-name-requires-2
+    (λ c κs. search rules)  -- put_open-a-requires
+    (λ c κs. search rules)  -- put_name-b-requires
+    (λ c κs. search rules)  -- put_name-c-requires
     (λ c κs. search rules)  -- put-requires
-    (λ c. search rules)  -- same-length
+    (λ c. search rules)  -- shape_of-out
     (λ c. search places-whole)  -- returns
     )

@@ -7,7 +7,7 @@ use Rattle.showing.proofs.heads.second_name.Tie as tie
 
 pub second_name_spec : {M : Type 1} → statement M
 unfolding second
-second_name_spec = tie.close (tie.spec (λ c. search rules)  -- cast-result
+second_name_spec = tie.close (tie.spec (λ c. search rules)  -- overflow_cast-result
+    (λ c. search seconds)  -- returns-then-h-eq12
     (λ c. search seconds)  -- returns
-    (λ c. search seconds)  -- returns-2
     )

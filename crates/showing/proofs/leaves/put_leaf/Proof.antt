@@ -8,17 +8,17 @@ pub put_leaf_spec : {M : Type 1} → statement M
 put_leaf_spec =
     tie.close
     (tie.spec
-    (λ c κs. search rules)  -- put-keyword-requires
-    (λ c κs. search rules)  -- put-number-requires
-    (λ c κs. search rules)  -- put-ref-requires
-    (λ c. search rules)  -- cast-put-word
-    (λ c κs. search rules)  -- put-word-requires
-    (λ c. search rules)  -- same-length
-    (λ c. search laws)  -- returns
-    (λ c. search rules)  -- same-length-2
-    (λ c. search laws)  -- returns-2
-    (λ c. search rules)  -- same-length-3
-    (λ c. search laws)  -- returns-3
-    (λ c. search rules)  -- same-length-4
-    (λ c. search laws)  -- returns-4
+    (λ c κs. search rules)  -- put_keyword-requires
+    (λ c κs. search rules)  -- put_number-requires
+    (λ c κs. search rules)  -- put_ref-requires
+    (λ c. search rules)  -- overflow_cast-h
+    (λ c κs. search rules)  -- put_word-requires
+    (λ c. search rules)  -- shape_of-out-in-1
+    (λ c. search laws)  -- returns-in-1
+    (λ c. search rules)  -- shape_of-out-in-2
+    (λ c. search laws)  -- returns-in-2
+    (λ c. search rules)  -- shape_of-out-in-3
+    (λ c. search laws)  -- returns-in-3
+    (λ c. search rules)  -- shape_of-out-in_default
+    (λ c. search laws)  -- returns-in_default
     )

@@ -7,9 +7,9 @@ use Rattle.showing.proofs.leaves.put_owner.Tie as tie
 pub put_owner_spec : {M : Type 1} → statement M
 put_owner_spec =
     tie.close
-    (tie.spec (λ c. search rules)  -- slice-aggregate-put-bytes
-    (λ c κs. search rules)  -- put-bytes-requires
-    (λ c κs. search rules)  -- put-number-requires
-    (λ c. search rules)  -- same-length
+    (tie.spec
+    (λ c κs. search rules)  -- put_bytes-p-requires
+    (λ c κs. search rules)  -- put_number-requires
+    (λ c. search rules)  -- shape_of-out
     (λ c. search laws)  -- returns
     )

@@ -8,10 +8,10 @@ pub put_ref_spec : {M : Type 1} → statement M
 put_ref_spec =
     tie.close
     (tie.spec
-    (λ c κs. search rules)  -- put-owner-requires
-    (λ c κs. search rules)  -- put-series-requires
-    (λ c κs. search rules)  -- put-number-requires
+    (λ c κs. search rules)  -- put_owner-a-requires
+    (λ c κs. search rules)  -- put_series-b-requires
+    (λ c κs. search rules)  -- put_number-c-requires
     (λ c κs. search rules)  -- put-requires
-    (λ c. search rules)  -- same-length
+    (λ c. search rules)  -- shape_of-out
     (λ c. search ref-whole)  -- returns
     )

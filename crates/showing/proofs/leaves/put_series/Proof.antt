@@ -8,12 +8,10 @@ pub put_series_spec : {M : Type 1} → statement M
 put_series_spec =
     tie.close
     (tie.spec
-    (λ c. search rules)  -- slice-aggregate-put-bytes
-    (λ c κs. search rules)  -- put-bytes-requires
-    (λ c. search rules)  -- same-length
+    (λ c κs. search rules)  -- put_bytes-requires
+    (λ c. search rules)  -- shape_of-out-then-s-eq0
+    (λ c. search laws)  -- returns-then-s-eq0
+    (λ c κs. search rules)  -- put_bytes-requires-2
+    (λ c. search rules)  -- shape_of-out
     (λ c. search laws)  -- returns
-    (λ c. search rules)  -- slice-aggregate-put-bytes-2
-    (λ c κs. search rules)  -- put-bytes-requires-2
-    (λ c. search rules)  -- same-length-2
-    (λ c. search laws)  -- returns-2
     )

@@ -11,97 +11,74 @@ unfolding Words bytes Passing
 put_keyword_spec =
     tie.close
     (tie.spec
-    (λ c. search rules)  -- slice-aggregate-put-bytes
-    (λ c κs. search rules)  -- put-bytes-requires
-    (λ c. search rules)  -- slice-aggregate-put-bytes-2
-    (λ c κs. search rules)  -- put-bytes-requires-2
-    (λ c. search rules)  -- slice-aggregate-put-bytes-3
-    (λ c κs. search rules)  -- put-bytes-requires-3
-    (λ c. search rules)  -- slice-aggregate-put-bytes-4
-    (λ c κs. search rules)  -- put-bytes-requires-4
-    (λ c. search rules)  -- slice-aggregate-put-bytes-5
-    (λ c κs. search rules)  -- put-bytes-requires-5
-    (λ c. search rules)  -- slice-aggregate-put-bytes-6
-    (λ c κs. search rules)  -- put-bytes-requires-6
-    (λ c. search rules)  -- slice-aggregate-put-bytes-7
-    (λ c κs. search rules)  -- put-bytes-requires-7
-    (λ c. search rules)  -- slice-aggregate-put-bytes-8
-    (λ c κs. search rules)  -- put-bytes-requires-8
-    (λ c. search rules)  -- slice-aggregate-put-bytes-9
-    (λ c κs. search rules)  -- put-bytes-requires-9
-    (λ c. search rules)  -- slice-aggregate-put-bytes-10
-    (λ c κs. search rules)  -- put-bytes-requires-10
-    (λ c. search rules)  -- slice-aggregate-put-bytes-11
-    (λ c κs. search rules)  -- put-bytes-requires-11
-    (λ c. search rules)  -- slice-aggregate-put-bytes-12
-    (λ c κs. search rules)  -- put-bytes-requires-12
-    (λ c. search rules)  -- slice-aggregate-put-bytes-13
-    (λ c κs. search rules)  -- put-bytes-requires-13
-    (λ c. search rules)  -- slice-aggregate-put-bytes-14
-    (λ c κs. search rules)  -- put-bytes-requires-14
-    (λ c. search rules)  -- slice-aggregate-put-bytes-15
-    (λ c κs. search rules)  -- put-bytes-requires-15
-    (λ c. search rules)  -- slice-aggregate-put-bytes-16
-    (λ c κs. search rules)  -- put-bytes-requires-16
-    (λ c. search rules)  -- slice-aggregate-put-bytes-17
-    (λ c κs. search rules)  -- put-bytes-requires-17
-    (λ c. search rules)  -- slice-aggregate-put-bytes-18
-    (λ c κs. search rules)  -- put-bytes-requires-18
-    (λ c. search rules)  -- slice-aggregate-put-bytes-19
-    (λ c κs. search rules)  -- put-bytes-requires-19
-    (λ c. search rules)  -- slice-aggregate-put-bytes-20
-    (λ c κs. search rules)  -- put-bytes-requires-20
-    (λ c. search rules)  -- slice-aggregate-put-bytes-21
-    (λ c κs. search rules)  -- put-bytes-requires-21
-    (λ c. search rules)  -- slice-aggregate-put-bytes-22
-    (λ c κs. search rules)  -- put-bytes-requires-22
-    (λ c. search rules)  -- slice-aggregate-put-bytes-23
-    (λ c κs. search rules)  -- put-bytes-requires-23
-    (λ c. search rules)  -- same-length
-    (λ c. search keys)  -- returns
-    (λ c. search rules)  -- same-length-2
-    (λ c. search keys)  -- returns-2
-    (λ c. search rules)  -- same-length-3
-    (λ c. search keys)  -- returns-3
-    (λ c. search rules)  -- same-length-4
-    (λ c. search keys)  -- returns-4
-    (λ c. search rules)  -- same-length-5
-    (λ c. search keys)  -- returns-5
-    (λ c. search rules)  -- same-length-6
-    (λ c. search keys)  -- returns-6
-    (λ c. search rules)  -- same-length-7
-    (λ c. search keys)  -- returns-7
-    (λ c. search rules)  -- same-length-8
-    (λ c. search keys)  -- returns-8
-    (λ c. search rules)  -- same-length-9
-    (λ c. search keys)  -- returns-9
-    (λ c. search rules)  -- same-length-10
-    (λ c. search keys)  -- returns-10
-    (λ c. search rules)  -- same-length-11
-    (λ c. search keys)  -- returns-11
-    (λ c. search rules)  -- same-length-12
-    (λ c. search keys)  -- returns-12
-    (λ c. search rules)  -- same-length-13
-    (λ c. search keys)  -- returns-13
-    (λ c. search rules)  -- same-length-14
-    (λ c. search keys)  -- returns-14
-    (λ c. search rules)  -- same-length-15
-    (λ c. search keys)  -- returns-15
-    (λ c. search rules)  -- same-length-16
-    (λ c. search keys)  -- returns-16
-    (λ c. search rules)  -- same-length-17
-    (λ c. search keys)  -- returns-17
-    (λ c. search rules)  -- same-length-18
-    (λ c. search keys)  -- returns-18
-    (λ c. search rules)  -- same-length-19
-    (λ c. search keys)  -- returns-19
-    (λ c. search rules)  -- same-length-20
-    (λ c. search keys)  -- returns-20
-    (λ c. search rules)  -- same-length-21
-    (λ c. search keys)  -- returns-21
-    (λ c. search rules)  -- same-length-22
-    (λ c. search keys)  -- returns-22
-    (λ c. search rules)  -- same-length-23
-    (λ c. search keys)  -- returns-23
-    (λ c. search keys)  -- returns-24
+    (λ c κs. search rules)  -- put_bytes-requires
+    (λ c κs. search rules)  -- put_bytes-requires-in-6
+    (λ c κs. search rules)  -- put_bytes-requires-in-7
+    (λ c κs. search rules)  -- put_bytes-requires-in-8
+    (λ c κs. search rules)  -- put_bytes-requires-in-9
+    (λ c κs. search rules)  -- put_bytes-requires-in-10
+    (λ c κs. search rules)  -- put_bytes-requires-in-11
+    (λ c κs. search rules)  -- put_bytes-requires-in-12
+    (λ c κs. search rules)  -- put_bytes-requires-in-13
+    (λ c κs. search rules)  -- put_bytes-requires-in-14
+    (λ c κs. search rules)  -- put_bytes-requires-in-15
+    (λ c κs. search rules)  -- put_bytes-requires-in-16
+    (λ c κs. search rules)  -- put_bytes-requires-in-17
+    (λ c κs. search rules)  -- put_bytes-requires-in-18
+    (λ c κs. search rules)  -- put_bytes-requires-in-19
+    (λ c κs. search rules)  -- put_bytes-requires-in-64
+    (λ c κs. search rules)  -- put_bytes-requires-in-65
+    (λ c κs. search rules)  -- put_bytes-requires-in-66
+    (λ c κs. search rules)  -- put_bytes-requires-in-67
+    (λ c κs. search rules)  -- put_bytes-requires-in-68
+    (λ c κs. search rules)  -- put_bytes-requires-in-128
+    (λ c κs. search rules)  -- put_bytes-requires-in-130
+    (λ c κs. search rules)  -- put_bytes-requires-in-192
+    (λ c. search rules)  -- shape_of-out-in-1
+    (λ c. search keys)  -- returns-in-1
+    (λ c. search rules)  -- shape_of-out-in-6
+    (λ c. search keys)  -- returns-in-6
+    (λ c. search rules)  -- shape_of-out-in-7
+    (λ c. search keys)  -- returns-in-7
+    (λ c. search rules)  -- shape_of-out-in-8
+    (λ c. search keys)  -- returns-in-8
+    (λ c. search rules)  -- shape_of-out-in-9
+    (λ c. search keys)  -- returns-in-9
+    (λ c. search rules)  -- shape_of-out-in-10
+    (λ c. search keys)  -- returns-in-10
+    (λ c. search rules)  -- shape_of-out-in-11
+    (λ c. search keys)  -- returns-in-11
+    (λ c. search rules)  -- shape_of-out-in-12
+    (λ c. search keys)  -- returns-in-12
+    (λ c. search rules)  -- shape_of-out-in-13
+    (λ c. search keys)  -- returns-in-13
+    (λ c. search rules)  -- shape_of-out-in-14
+    (λ c. search keys)  -- returns-in-14
+    (λ c. search rules)  -- shape_of-out-in-15
+    (λ c. search keys)  -- returns-in-15
+    (λ c. search rules)  -- shape_of-out-in-16
+    (λ c. search keys)  -- returns-in-16
+    (λ c. search rules)  -- shape_of-out-in-17
+    (λ c. search keys)  -- returns-in-17
+    (λ c. search rules)  -- shape_of-out-in-18
+    (λ c. search keys)  -- returns-in-18
+    (λ c. search rules)  -- shape_of-out-in-19
+    (λ c. search keys)  -- returns-in-19
+    (λ c. search rules)  -- shape_of-out-in-64
+    (λ c. search keys)  -- returns-in-64
+    (λ c. search rules)  -- shape_of-out-in-65
+    (λ c. search keys)  -- returns-in-65
+    (λ c. search rules)  -- shape_of-out-in-66
+    (λ c. search keys)  -- returns-in-66
+    (λ c. search rules)  -- shape_of-out-in-67
+    (λ c. search keys)  -- returns-in-67
+    (λ c. search rules)  -- shape_of-out-in-68
+    (λ c. search keys)  -- returns-in-68
+    (λ c. search rules)  -- shape_of-out-in-128
+    (λ c. search keys)  -- returns-in-128
+    (λ c. search rules)  -- shape_of-out-in-130
+    (λ c. search keys)  -- returns-in-130
+    (λ c. search rules)  -- shape_of-out-in-192
+    (λ c. search keys)  -- returns-in-192
+    (λ c. search keys)  -- returns-in_default
     )

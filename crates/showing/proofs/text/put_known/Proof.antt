@@ -12,35 +12,28 @@ unfolding known_in Words bytes
 put_known_spec =
     tie.close
     (tie.spec
-    (λ c κs. search rules)  -- put-keyword-requires
-    (λ c. search rules)  -- slice-aggregate-put-bytes
-    (λ c κs. search rules)  -- put-bytes-requires
-    (λ c. search rules)  -- slice-aggregate-put-bytes-2
-    (λ c κs. search rules)  -- put-bytes-requires-2
-    (λ c. search rules)  -- slice-aggregate-put-bytes-3
-    (λ c κs. search rules)  -- put-bytes-requires-3
-    (λ c. search rules)  -- slice-aggregate-put-bytes-4
-    (λ c κs. search rules)  -- put-bytes-requires-4
-    (λ c. search rules)  -- slice-aggregate-put-bytes-5
-    (λ c κs. search rules)  -- put-bytes-requires-5
-    (λ c. search rules)  -- slice-aggregate-put-bytes-6
-    (λ c κs. search rules)  -- put-bytes-requires-6
-    (λ c. search rules)  -- slice-aggregate-put-bytes-7
-    (λ c κs. search rules)  -- put-bytes-requires-7
-    (λ c. search rules)  -- same-length
-    (λ c. search knowns)  -- returns
-    (λ c. search rules)  -- same-length-2
-    (λ c. search knowns)  -- returns-2
-    (λ c. search rules)  -- same-length-3
-    (λ c. search knowns)  -- returns-3
-    (λ c. search rules)  -- same-length-4
-    (λ c. search knowns)  -- returns-4
-    (λ c. search rules)  -- same-length-5
-    (λ c. search knowns)  -- returns-5
-    (λ c. search rules)  -- same-length-6
-    (λ c. search knowns)  -- returns-6
-    (λ c. search rules)  -- same-length-7
-    (λ c. search knowns)  -- returns-7
-    (λ c. search rules)  -- same-length-8
-    (λ c. search knowns)  -- returns-8
+    (λ c κs. search rules)  -- put_keyword-requires
+    (λ c κs. search rules)  -- put_bytes-requires
+    (λ c κs. search rules)  -- put_bytes-requires-in-2
+    (λ c κs. search rules)  -- put_bytes-requires-in-3
+    (λ c κs. search rules)  -- put_bytes-requires-in-4
+    (λ c κs. search rules)  -- put_bytes-requires-in-5
+    (λ c κs. search rules)  -- put_bytes-requires-in-6
+    (λ c κs. search rules)  -- put_bytes-requires-in_default
+    (λ c. search rules)  -- shape_of-out-in-0
+    (λ c. search knowns)  -- returns-in-0
+    (λ c. search rules)  -- shape_of-out-in-1
+    (λ c. search knowns)  -- returns-in-1
+    (λ c. search rules)  -- shape_of-out-in-2
+    (λ c. search knowns)  -- returns-in-2
+    (λ c. search rules)  -- shape_of-out-in-3
+    (λ c. search knowns)  -- returns-in-3
+    (λ c. search rules)  -- shape_of-out-in-4
+    (λ c. search knowns)  -- returns-in-4
+    (λ c. search rules)  -- shape_of-out-in-5
+    (λ c. search knowns)  -- returns-in-5
+    (λ c. search rules)  -- shape_of-out-in-6
+    (λ c. search knowns)  -- returns-in-6
+    (λ c. search rules)  -- shape_of-out-in_default
+    (λ c. search knowns)  -- returns-in_default
     )

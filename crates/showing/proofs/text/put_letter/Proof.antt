@@ -5,9 +5,9 @@ use Rattle.showing.proofs.text.put_letter.Statement.{statement}
 use Rattle.showing.proofs.text.put_letter.Tie as tie
 
 pub put_letter_spec : {M : Type 1} → statement M
-put_letter_spec = tie.close (tie.spec (λ c. search laws)  -- returns
-    (λ c. search rules)  -- cast-put
+put_letter_spec = tie.close (tie.spec (λ c. search laws)  -- returns-then-b-eq0
+    (λ c. search rules)  -- overflow_cast-b
     (λ c κs. search rules)  -- put-requires
-    (λ c. search rules)  -- same-length
-    (λ c. search laws)  -- returns-2
+    (λ c. search rules)  -- shape_of-out
+    (λ c. search laws)  -- returns
     )

@@ -8,10 +8,10 @@ pub put_letters_spec : {M : Type 1} → statement M
 put_letters_spec =
     tie.close
     (tie.spec
-    (λ c κs. search rules)  -- put-letter-requires
-    (λ c κs. search rules)  -- put-letter-requires-2
-    (λ c κs. search rules)  -- put-letter-requires-3
-    (λ c κs. search rules)  -- put-letter-requires-4
-    (λ c. search rules)  -- same-length
+    (λ c κs. search rules)  -- put_letter-a-requires
+    (λ c κs. search rules)  -- put_letter-b-requires
+    (λ c κs. search rules)  -- put_letter-c-requires
+    (λ c κs. search rules)  -- put_letter-requires
+    (λ c. search rules)  -- shape_of-out
     (λ c. search laws)  -- returns
     )

@@ -5,9 +5,9 @@ use Rattle.showing.proofs.text.put_name.Statement.{statement}
 use Rattle.showing.proofs.text.put_name.Tie as tie
 
 pub put_name_spec : {M : Type 1} → statement M
-put_name_spec = tie.close (tie.spec (λ c. search laws)  -- returns
-    (λ c κs. search rules)  -- put-requires
-    (λ c κs. search rules)  -- put-tagged-requires
-    (λ c. search rules)  -- same-length
-    (λ c. search laws)  -- returns-2
+put_name_spec = tie.close (tie.spec (λ c. search laws)  -- returns-then-c-eq-NO_NAME
+    (λ c κs. search rules)  -- put-p-requires
+    (λ c κs. search rules)  -- put_tagged-requires
+    (λ c. search rules)  -- shape_of-out
+    (λ c. search laws)  -- returns
     )

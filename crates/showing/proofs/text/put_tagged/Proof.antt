@@ -8,20 +8,17 @@ pub put_tagged_spec : {M : Type 1} → statement M
 put_tagged_spec =
     tie.close
     (tie.spec
-    (λ c κs. search rules)  -- put-word-requires
-    (λ c. search rules)  -- same-length
+    (λ c κs. search rules)  -- put_word-requires
+    (λ c. search rules)  -- shape_of-out-then-c-lt128
+    (λ c. search laws)  -- returns-then-c-lt128
+    (λ c κs. search rules)  -- put_word-p-requires
+    (λ c κs. search rules)  -- put_bytes-requires
+    (λ c. search rules)  -- shape_of-out-then-c-lt256
+    (λ c. search laws)  -- returns-then-c-lt256
+    (λ c κs. search rules)  -- put_bytes-requires-then-c-lt384
+    (λ c. search rules)  -- shape_of-out-then-c-lt384
+    (λ c. search laws)  -- returns-then-c-lt384
+    (λ c κs. search rules)  -- put_bytes-requires-2
+    (λ c. search rules)  -- shape_of-out
     (λ c. search laws)  -- returns
-    (λ c κs. search rules)  -- put-word-requires-2
-    (λ c. search rules)  -- slice-aggregate-put-bytes
-    (λ c κs. search rules)  -- put-bytes-requires
-    (λ c. search rules)  -- same-length-2
-    (λ c. search laws)  -- returns-2
-    (λ c. search rules)  -- slice-aggregate-put-bytes-2
-    (λ c κs. search rules)  -- put-bytes-requires-2
-    (λ c. search rules)  -- same-length-3
-    (λ c. search laws)  -- returns-3
-    (λ c. search rules)  -- slice-aggregate-put-bytes-3
-    (λ c κs. search rules)  -- put-bytes-requires-3
-    (λ c. search rules)  -- same-length-4
-    (λ c. search laws)  -- returns-4
     )

@@ -8,25 +8,25 @@ pub put_word_spec : {M : Type 1} → statement M
 put_word_spec =
     tie.close
     (tie.spec
-    (λ c κs. search rules)  -- put-known-requires
-    (λ c. search rules)  -- same-length
+    (λ c κs. search rules)  -- put_known-requires
+    (λ c. search rules)  -- shape_of-out-then-x-lt8
+    (λ c. search laws)  -- returns-then-x-lt8
+    (λ c. search laws)  -- returns-then-x-ge72
+    (λ c. search rules)  -- overflow_mul-x
+    (λ c. search rules)  -- overflow_sub-x
+    (λ c. search rules)  -- offset_bounds-t-x
+    (λ c. search rules)  -- bounds-t-x
+    (λ c κs. search rules)  -- put_letters-a-requires
+    (λ c. search rules)  -- overflow_mul-x-2
+    (λ c. search rules)  -- overflow_sub-x-2
+    (λ c. search rules)  -- offset_bounds-t-x-2
+    (λ c. search rules)  -- bounds-t-x-2
+    (λ c κs. search rules)  -- put_letters-b-requires
+    (λ c. search rules)  -- overflow_mul-x-3
+    (λ c. search rules)  -- overflow_sub-x-3
+    (λ c. search rules)  -- offset_bounds-t-x-3
+    (λ c. search rules)  -- bounds-t-x-3
+    (λ c κs. search rules)  -- put_letters-requires
+    (λ c. search rules)  -- shape_of-out
     (λ c. search laws)  -- returns
-    (λ c. search laws)  -- returns-2
-    (λ c. search rules)  -- mul-put-letters
-    (λ c. search rules)  -- sub-put-letters
-    (λ c. search rules)  -- mul-put-letters-2
-    (λ c. search rules)  -- shared-slice-read-put-letters
-    (λ c κs. search rules)  -- put-letters-requires
-    (λ c. search rules)  -- mul-put-letters-3
-    (λ c. search rules)  -- sub-put-letters-2
-    (λ c. search rules)  -- mul-put-letters-4
-    (λ c. search rules)  -- shared-slice-read-put-letters-2
-    (λ c κs. search rules)  -- put-letters-requires-2
-    (λ c. search rules)  -- mul-put-letters-5
-    (λ c. search rules)  -- sub-put-letters-3
-    (λ c. search rules)  -- mul-put-letters-6
-    (λ c. search rules)  -- shared-slice-read-put-letters-3
-    (λ c κs. search rules)  -- put-letters-requires-3
-    (λ c. search rules)  -- same-length-2
-    (λ c. search laws)  -- returns-3
     )
