@@ -6,23 +6,23 @@ use lib.ListN.{length}
 use Rattle.dictionary.proofs.ends.Statement.{statement}
 use Rattle.dictionary.proofs.ends.Tie as tie
 
-abbrev invariant-loop : tie.invariant-loop
-invariant-loop t at i₀ i = Still (zero_from t at) (zero_from t i) × (i ≤ length t)
+abbrev invariant-loop-i : tie.invariant-loop-i
+invariant-loop-i t at i₀ i = Still (zero_from t at) (zero_from t i) × (i ≤ length t)
 
-abbrev decreases-loop : tie.decreases-loop
-decreases-loop t at i₀ i = length t - i
+abbrev decreases-loop-i : tie.decreases-loop-i
+decreases-loop-i t at i₀ i = length t - i
 
 pub ends_spec : {M : Type 1} → statement M
 ends_spec =
     tie.close
     (tie.spec
-    invariant-loop
-    decreases-loop
-    (λ c. search laws)  -- loop-holds
-    (λ c. search laws)  -- shared-slice-read-if1
-    (λ c. search laws)  -- add-i
-    (λ c. search laws)  -- loop-less
-    (λ c. search laws)  -- loop-again
+    invariant-loop-i
+    decreases-loop-i
+    (λ c. search laws)  -- loop-i-init
+    (λ c. search laws)  -- bounds-t-i
+    (λ c. search laws)  -- overflow_add-i
+    (λ c. search laws)  -- loop-i-smaller
+    (λ c. search laws)  -- loop-i-preserved
+    (λ c. search laws)  -- returns-else-t-i-eq0
     (λ c. search laws)  -- returns
-    (λ c. search laws)  -- returns-2
     )

@@ -6,25 +6,25 @@ use lib.ListN.{length}
 use Rattle.dictionary.proofs.is_dictionary.Statement.{statement}
 use Rattle.dictionary.proofs.is_dictionary.Tie as tie
 
-abbrev invariant-loop : tie.invariant-loop
-invariant-loop w at n i₀ left₀ i left = Still (entries_hold w at n) (entries_hold w i left) × (i + 3 * left ≤ length w)
+abbrev invariant-loop-left : tie.invariant-loop-left
+invariant-loop-left w at n i₀ left₀ i left = Still (entries_hold w at n) (entries_hold w i left) × (i + 3 * left ≤ length w)
 
-abbrev decreases-loop : tie.decreases-loop
-decreases-loop w at n i₀ left₀ i left = left
+abbrev decreases-loop-left : tie.decreases-loop-left
+decreases-loop-left w at n i₀ left₀ i left = left
 
 pub is_dictionary_spec : {M : Type 1} → statement M
 is_dictionary_spec =
     tie.close
     (tie.spec
-    invariant-loop
-    decreases-loop
-    (λ c. search laws)  -- loop-holds
-    (λ c. search laws)  -- sub-is-first
-    (λ c κs. search laws)  -- is-first-requires
-    (λ c. search laws)  -- add-i
-    (λ c. search laws)  -- sub-left
-    (λ c. search laws)  -- loop-less
-    (λ c. search laws)  -- loop-again
+    invariant-loop-left
+    decreases-loop-left
+    (λ c. search laws)  -- loop-left-init
+    (λ c. search laws)  -- overflow_sub-left
+    (λ c κs. search laws)  -- is_first-requires
+    (λ c. search laws)  -- overflow_add-i
+    (λ c. search laws)  -- overflow_sub-left-then-is_first
+    (λ c. search laws)  -- loop-left-smaller
+    (λ c. search laws)  -- loop-left-preserved
+    (λ c. search laws)  -- returns-else-is_first
     (λ c. search laws)  -- returns
-    (λ c. search laws)  -- returns-2
     )

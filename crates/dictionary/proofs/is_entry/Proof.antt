@@ -8,6 +8,6 @@ is_entry_spec =
     tie.close (tie.spec (λ c κs. search laws)  -- spell-requires
     (λ c κs. search laws)  -- spell-requires-2
     (λ c κs. search laws)  -- spell-requires-3
-    (λ c κs. search laws)  -- is-own-requires
+    (λ c κs. search laws)  -- is_own-requires
     (λ c. search laws)  -- returns
     )

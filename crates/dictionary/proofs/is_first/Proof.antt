@@ -7,18 +7,18 @@ pub is_first_spec : {M : Type 1} → statement M
 is_first_spec =
     tie.close
     (tie.spec
-    (λ c. search laws)  -- mul-is-entry
-    (λ c. search laws)  -- shared-slice-read-is-entry
-    (λ c. search laws)  -- add-is-entry
-    (λ c. search laws)  -- mul-is-entry-2
-    (λ c. search laws)  -- shared-slice-read-is-entry-2
-    (λ c. search laws)  -- add-is-entry-2
-    (λ c. search laws)  -- mul-is-entry-3
-    (λ c. search laws)  -- shared-slice-read-is-entry-3
-    (λ c κs. search laws)  -- is-entry-requires
-    (λ c. search laws)  -- add-again
+    (λ c. search laws)  -- offset_bounds-w-at
+    (λ c. search laws)  -- bounds-w-at
+    (λ c. search laws)  -- overflow_add-at
+    (λ c. search laws)  -- offset_bounds-w-at-2
+    (λ c. search laws)  -- bounds-w-at-2
+    (λ c. search laws)  -- overflow_add-at-2
+    (λ c. search laws)  -- offset_bounds-w-at-3
+    (λ c. search laws)  -- bounds-w-at-3
+    (λ c κs. search laws)  -- is_entry-requires
+    (λ c. search laws)  -- overflow_add-at-then-is_entry
     (λ c κs. search laws)  -- again-requires
+    (λ c. search laws)  -- returns-then-again
+    (λ c. search laws)  -- returns-then-is_entry
     (λ c. search laws)  -- returns
-    (λ c. search laws)  -- returns-2
-    (λ c. search laws)  -- returns-3
     )

@@ -7,12 +7,11 @@ pub is_own_spec : {M : Type 1} → statement M
 is_own_spec =
     tie.close
     (tie.spec
-    (λ c κs. search laws)  -- run-end-requires
+    (λ c κs. search laws)  -- run_end-end-requires
     (λ c κs. search laws)  -- ends-requires
-    (λ c. search laws)  -- slice-aggregate-named
     (λ c κs. search laws)  -- named-requires
+    (λ c. search laws)  -- returns-then-named
+    (λ c κs. search laws)  -- is_word-requires
+    (λ c. search laws)  -- returns-then-ends
     (λ c. search laws)  -- returns
-    (λ c κs. search laws)  -- is-word-requires
-    (λ c. search laws)  -- returns-2
-    (λ c. search laws)  -- returns-3
     )

@@ -8,9 +8,9 @@ pub names_hold_spec : {M : Type 1} → statement M
 names_hold_spec =
     tie.close
     (tie.spec
-    (λ c. search rules)  -- shared-slice-read-k
+    (λ c. search rules)  -- bounds-w-0
+    (λ c. search laws)  -- returns-then-k-gt-NAMES
+    (λ c. search rules)  -- overflow_cast-k
+    (λ c κs. search rules)  -- is_dictionary-requires
     (λ c. search laws)  -- returns
-    (λ c. search rules)  -- cast-is-dictionary
-    (λ c κs. search rules)  -- is-dictionary-requires
-    (λ c. search laws)  -- returns-2
     )

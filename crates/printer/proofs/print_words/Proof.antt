@@ -9,17 +9,17 @@ pub print_words_spec : {M : Type 1} → statement M
 print_words_spec =
     tie.close
     (tie.spec
-    (λ c κs. search rules)  -- size-requires
-    (λ c. search (rules, length-take-le))  -- slice-aggregate-names-hold
-    (λ c κs. search (rules, length-take-le))  -- names-hold-requires
-    (λ c. search rules)  -- sub-t
-    (λ c. search rules)  -- part-t-start
-    (λ c. search rules)  -- part-t-end
-    (λ c. search rules)  -- shared-slice-read-n
+    (λ c κs. search rules)  -- size-room-requires
+    (λ c. search (rules, length-take-le))  -- slice_bounds-names_hold-end
+    (λ c κs. search (rules, length-take-le))  -- names_hold-requires
+    (λ c. search rules)  -- slice_bounds-t-count
+    (λ c. search rules)  -- slice_bounds-t-start
+    (λ c. search rules)  -- slice_bounds-t-end
+    (λ c. search rules)  -- bounds-t-0
+    (λ c. search laws)  -- returns-then-n-gt-LINES
+    (λ c. search rules)  -- overflow_cast-n
+    (λ c κs. search rules)  -- show_lines-o-requires
+    (λ c. search laws)  -- returns-then-room-o
+    (λ c. search laws)  -- returns-then-names_hold
     (λ c. search laws)  -- returns
-    (λ c. search rules)  -- cast-show-lines
-    (λ c κs. search rules)  -- show-lines-requires
-    (λ c. search laws)  -- returns-2
-    (λ c. search laws)  -- returns-3
-    (λ c. search laws)  -- returns-4
     )

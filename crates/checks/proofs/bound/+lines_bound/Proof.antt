@@ -46,7 +46,7 @@ pub +lines_bound_spec : {M : Type 1} → statement M
     (λ c. search laws)  -- lines-bound-add-lines-bound 152:52
     (λ c κs. search laws)  -- lines-bound-lines-bound-requires 152:13
     (λ c κs. search laws)  -- lines-bound-swap-requires-2 153:9
-    (λ c. (search laws, define-kept _ _ _ _ _ _ _ _ _ c.before.before.before.before.before.before.before.scan.ensures.1.0 c.before.before.before.before.swap.ensures c.before.before.lines-bound.ensures.1 c.swap2.ensures))  -- lines-bound-returns-4 154:9
+    (λ c. (search laws, define-kept _ _ _ _ _ _ _ _ _ c.before.before.before.before.before.before.before.scan-e.ensures.1.0 c.before.before.before.before.swap-old.ensures c.before.before.lines_bound-r.ensures.1 c.swap.ensures))  -- lines-bound-returns-4 154:9
     (λ c κs. search laws)  -- lines-bound-scan-requires-2 156:9
     (λ c. (search laws, search laws))  -- lines-bound-returns-5 158:9
     (λ c. search laws)  -- lines-bound-sub-lines-bound-2 160:30

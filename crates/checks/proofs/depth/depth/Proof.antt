@@ -6,18 +6,18 @@ use lib.ListN.{length}
 use Rattle.checks.proofs.depth.depth.Statement.{statement}
 use Rattle.checks.proofs.depth.depth.Tie as tie
 
-abbrev invariant-loop : tie.invariant-loop
-invariant-loop text up₀ most₀ i₀ up most i = Deepening text up most i × (i ≤ length text) × (up ≤ i)
+abbrev invariant-loop-i : tie.invariant-loop-i
+invariant-loop-i text up₀ most₀ i₀ up most i = Deepening text up most i × (i ≤ length text) × (up ≤ i)
 
-abbrev decreases-loop : tie.decreases-loop
-decreases-loop text up₀ most₀ i₀ up most i = length text - i
+abbrev decreases-loop-i : tie.decreases-loop-i
+decreases-loop-i text up₀ most₀ i₀ up most i = length text - i
 
 pub depth_spec : {M : Type 1} → statement M
 depth_spec =
     tie.close
     (tie.spec
-    invariant-loop
-    decreases-loop
+    invariant-loop-i
+    decreases-loop-i
     (λ c. search laws)  -- loop-holds 47:5
     (λ c. search laws)  -- shared-slice-read-b 48:17
     (λ c κs. search laws)  -- most-open-requires 49:9

@@ -4,18 +4,18 @@ use Prim.Native.Nat.{◌≤◌, ◌-◌}
 use Rattle.checks.proofs.size.size.Statement.{statement}
 use Rattle.checks.proofs.size.size.Tie as tie
 
-abbrev invariant-loop : tie.invariant-loop
-invariant-loop s words lines n₀ i₀ n i = Counting s words n i × (i ≤ words) × (n ≤ i)
+abbrev invariant-loop-i : tie.invariant-loop-i
+invariant-loop-i s words lines n₀ i₀ n i = Counting s words n i × (i ≤ words) × (n ≤ i)
 
-abbrev decreases-loop : tie.decreases-loop
-decreases-loop s words lines n₀ i₀ n i = words - i
+abbrev decreases-loop-i : tie.decreases-loop-i
+decreases-loop-i s words lines n₀ i₀ n i = words - i
 
 pub size_spec : {M : Type 1} → statement M
 size_spec =
     tie.close
     (tie.spec
-    invariant-loop
-    decreases-loop
+    invariant-loop-i
+    decreases-loop-i
     (λ c. search laws)  -- loop-holds 21:5
     (λ c. search laws)  -- mul-is-node 22:22
     (λ c. search laws)  -- element-copy-out-is-node 22:22

@@ -6,18 +6,18 @@ use lib.ListN.{length}
 use Rattle.checks.proofs.table.put_lines.Statement.{statement}
 use Rattle.checks.proofs.table.put_lines.Tie as tie
 
-abbrev invariant-loop : tie.invariant-loop
-invariant-loop table₀ s words i₀ table i = Lining table₀ s words table i × (i ≤ words) × (length table ≡ length table₀)
+abbrev invariant-loop-i : tie.invariant-loop-i
+invariant-loop-i table₀ s words i₀ table i = Lining table₀ s words table i × (i ≤ words) × (length table ≡ length table₀)
 
-abbrev decreases-loop : tie.decreases-loop
-decreases-loop table₀ s words i₀ table i = words - i
+abbrev decreases-loop-i : tie.decreases-loop-i
+decreases-loop-i table₀ s words i₀ table i = words - i
 
 pub put_lines_spec : {M : Type 1} → statement M
 put_lines_spec =
     tie.close
     (tie.spec
-    invariant-loop
-    decreases-loop
+    invariant-loop-i
+    decreases-loop-i
     (λ c. search line-laws)  -- loop-holds 76:5
     (λ c. search line-laws)  -- add-put 77:20
     (λ c. search line-laws)  -- mul-narrow 77:36

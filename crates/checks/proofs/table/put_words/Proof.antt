@@ -6,18 +6,18 @@ use lib.ListN.{length}
 use Rattle.checks.proofs.table.put_words.Statement.{statement}
 use Rattle.checks.proofs.table.put_words.Tie as tie
 
-abbrev invariant-loop : tie.invariant-loop
-invariant-loop table₀ low high count k₀ table k = Wording table₀ low high count table k × (length table ≡ length table₀)
+abbrev invariant-loop-k : tie.invariant-loop-k
+invariant-loop-k table₀ low high count k₀ table k = Wording table₀ low high count table k × (length table ≡ length table₀)
 
-abbrev decreases-loop : tie.decreases-loop
-decreases-loop table₀ low high count k₀ table k = count - k
+abbrev decreases-loop-k : tie.decreases-loop-k
+decreases-loop-k table₀ low high count k₀ table k = count - k
 
 pub put_words_spec : {M : Type 1} → statement M
 put_words_spec =
     tie.close
     (tie.spec
-    invariant-loop
-    decreases-loop
+    invariant-loop-k
+    decreases-loop-k
     (λ c. search laws)  -- loop-holds 110:5
     (λ c. search laws)  -- mul-put-word 111:25
     (λ c. search laws)  -- add-put-word 111:25

@@ -7,23 +7,23 @@ pub outer_spec : {M : Type 1} → statement M
 outer_spec =
     tie.close
     (tie.spec
-    (λ c. search laws)  -- add-result
-    (λ c. search laws)  -- add-result-2
-    (λ c. search laws)  -- add-result-3
-    (λ c. search laws)  -- cast-operands
+    (λ c. search laws)  -- overflow_add-result
+    (λ c. search laws)  -- overflow_add-result-in-14
+    (λ c. search laws)  -- overflow_add-result-in-64
+    (λ c. search laws)  -- overflow_cast-k
     (λ c κs. search laws)  -- operands-requires
-    (λ c. search laws)  -- cast-result
-    (λ c. search laws)  -- returns
-    (λ c. search laws)  -- returns-2
-    (λ c. search laws)  -- returns-3
-    (λ c. search laws)  -- returns-4
-    (λ c. search laws)  -- returns-5
-    (λ c. search laws)  -- returns-6
-    (λ c. search laws)  -- returns-7
-    (λ c. search laws)  -- returns-8
-    (λ c. search laws)  -- returns-9
-    (λ c. search laws)  -- returns-10
-    (λ c. search laws)  -- returns-11
-    (λ c. search laws)  -- returns-12
-    (λ c. search laws)  -- returns-13
+    (λ c. search laws)  -- overflow_cast-result
+    (λ c. search laws)  -- returns-in-11
+    (λ c. search laws)  -- returns-in-12
+    (λ c. search laws)  -- returns-in-13
+    (λ c. search laws)  -- returns-in-14
+    (λ c. search laws)  -- returns-in-15
+    (λ c. search laws)  -- returns-in-16
+    (λ c. search laws)  -- returns-in-17
+    (λ c. search laws)  -- returns-in-64
+    (λ c. search laws)  -- returns-in-66
+    (λ c. search laws)  -- returns-in-67
+    (λ c. search laws)  -- returns-in-68
+    (λ c. search laws)  -- returns-in-128
+    (λ c. search laws)  -- returns-in_default
     )

@@ -7,10 +7,9 @@ pub spaced_word_spec : {M : Type 1} → statement M
 spaced_word_spec =
     tie.close
     (tie.spec
-    (λ c. search laws)
-    (λ c κs. search laws)
-    (λ c. search laws)
-    (λ c κs. search laws)
-    (λ c. search laws)
-    (λ c. search laws)
+    (λ c κs. search laws)  -- starts-requires
+    (λ c. search laws)  -- overflow_add-at
+    (λ c κs. search laws)  -- word_at-requires
+    (λ c. search laws)  -- returns-then-starts
+    (λ c. search laws)  -- returns
     )

@@ -7,11 +7,10 @@ pub word_spec : {M : Type 1} → statement M
 word_spec =
     tie.close
     (tie.spec
-    (λ c κs. search laws)
-    (λ c. search laws)
-    (λ c κs. search laws)
-    (λ c. search laws)
-    (λ c κs. search laws)
-    (λ c. search laws)
-    (λ c. search laws)
+    (λ c κs. search laws)  -- is_word-requires
+    (λ c κs. search laws)  -- named-requires
+    (λ c. search laws)  -- returns-then-named
+    (λ c κs. search laws)  -- place-requires
+    (λ c. search laws)  -- returns-then-is_word
+    (λ c. search laws)  -- returns
     )

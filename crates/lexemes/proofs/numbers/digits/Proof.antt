@@ -5,18 +5,18 @@ use Rattle.lexemes.specs.NumberLaws.{laws}
 use Rattle.lexemes.proofs.numbers.digits.Statement.{statement}
 use Rattle.lexemes.proofs.numbers.digits.Tie as tie
 
-abbrev invariant-loop : tie.invariant-loop
-invariant-loop text at end i₀ n₀ i n = Counted text at end i n
+abbrev invariant-loop-i : tie.invariant-loop-i
+invariant-loop-i text at end i₀ n₀ i n = Counted text at end i n
 
-abbrev decreases-loop : tie.decreases-loop
-decreases-loop text at end i₀ n₀ i n = end - i
+abbrev decreases-loop-i : tie.decreases-loop-i
+decreases-loop-i text at end i₀ n₀ i n = end - i
 
 pub digits_spec : {M : Type 1} → statement M
 digits_spec =
     tie.close
     (tie.spec
-    invariant-loop
-    decreases-loop
+    invariant-loop-i
+    decreases-loop-i
     (λ c. search laws)
     (λ c. search laws)
     (λ c κs. search laws)

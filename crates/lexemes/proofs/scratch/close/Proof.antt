@@ -7,11 +7,10 @@ pub close_spec : {M : Type 1} → statement M
 close_spec =
     tie.close
     (tie.spec
-    (λ c. search closing)
-    (λ c κs. search closing)
-    (λ c. search closing)
-    (λ c κs. search closing)
-    (λ c. search closing)
-    (λ c. search closing)
-    (λ c. search closing)
+    (λ c κs. search closing)  -- starts-requires
+    (λ c. search closing)  -- overflow_add-at
+    (λ c κs. search closing)  -- put-requires
+    (λ c. search closing)  -- shape_of-out-then-starts
+    (λ c. search closing)  -- returns-then-starts
+    (λ c. search closing)  -- returns
     )
