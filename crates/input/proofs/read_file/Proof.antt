@@ -8,11 +8,11 @@ pub read_file_spec : {M : Type 1} → statement M
 read_file_spec =
     tie.close
     (tie.spec
-    (λ c κs. search rules)  -- open-read-requires
+    (λ c κs. search rules)  -- open_read-fd-requires
     (λ c κs. search rules)  -- fail-requires
-    (λ c. search laws)  -- returns
-    (λ c κs. search rules)  -- read-all-requires
+    (λ c. search laws)  -- returns-then-fd-lt0
+    (λ c κs. search rules)  -- read_all-r-requires
     (λ c κs. search rules)  -- close-requires
-    (λ c. search rules)  -- same-length
-    (λ c. search laws)  -- returns-2
+    (λ c. search rules)  -- shape_of-buffer
+    (λ c. search laws)  -- returns
     )

@@ -5,8 +5,8 @@ use Rattle.transcript.proofs.bad_token.Tie as tie
 
 pub bad_token_spec : {M : Type 1} → statement M
 bad_token_spec =
-    tie.close (tie.spec (λ c. search laws)  -- slice-aggregate-put-bytes
-    (λ c κs. search laws)  -- put-bytes-requires
-    (λ c. search laws)  -- same-length
+    tie.close (tie.spec
+    (λ c κs. search laws)  -- put_bytes-requires
+    (λ c. search laws)  -- shape_of-out
     (λ c. search laws)  -- returns
     )

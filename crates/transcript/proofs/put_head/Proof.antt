@@ -4,8 +4,8 @@ use Rattle.transcript.proofs.put_head.Statement.{statement}
 use Rattle.transcript.proofs.put_head.Tie as tie
 
 pub put_head_spec : {M : Type 1} → statement M
-put_head_spec = tie.close (tie.spec (λ c κs. search laws)  -- put-bytes-requires
-    (λ c. search laws)  -- add-result
-    (λ c. search laws)  -- same-length
+put_head_spec = tie.close (tie.spec (λ c κs. search laws)  -- put_bytes-k-requires
+    (λ c. search laws)  -- overflow_add-result
+    (λ c. search laws)  -- shape_of-out
     (λ c. search laws)  -- returns
     )

@@ -7,12 +7,10 @@ pub refuse_spec : {M : Type 1} → statement M
 refuse_spec =
     tie.close
     (tie.spec
-    (λ c κs. search laws)  -- wide-requires
-    (λ c. search laws)  -- slice-aggregate-put-bytes
-    (λ c κs. search laws)  -- put-bytes-requires
-    (λ c κs. search laws)  -- put-number-requires
-    (λ c. search laws)  -- slice-aggregate-put-bytes-2
-    (λ c κs. search laws)  -- put-bytes-requires-2
-    (λ c. search laws)  -- same-length
+    (λ c κs. search laws)  -- wide-n-requires
+    (λ c κs. search laws)  -- put_bytes-a-requires
+    (λ c κs. search laws)  -- put_number-b-requires
+    (λ c κs. search laws)  -- put_bytes-requires
+    (λ c. search laws)  -- shape_of-out
     (λ c. search laws)  -- returns
     )

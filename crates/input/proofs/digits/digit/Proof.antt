@@ -7,8 +7,8 @@ pub digit_spec : {M : Type 1} → statement M
 digit_spec =
     tie.close
     (tie.spec
+    (λ c. search laws)  -- returns-then-b-lt48
+    (λ c. search laws)  -- returns-then-b-gt57
+    (λ c. search laws)  -- overflow_cast-result
     (λ c. search laws)  -- returns
-    (λ c. search laws)  -- returns-2
-    (λ c. search laws)  -- cast-result
-    (λ c. search laws)  -- returns-3
     )

@@ -9,15 +9,15 @@ unfolding five_at
 five_spec =
     tie.close
     (tie.spec
+    (λ c κs. search rules)  -- two-high-requires
+    (λ c. search rules)  -- overflow_mul-high
+    (λ c. search rules)  -- overflow_add-at
     (λ c κs. search rules)  -- two-requires
-    (λ c. search rules)  -- mul-high
-    (λ c. search rules)  -- add-two
-    (λ c κs. search rules)  -- two-requires-2
-    (λ c. search rules)  -- mul-low
-    (λ c. search rules)  -- add-digit
-    (λ c. search rules)  -- shared-slice-read-digit
+    (λ c. search rules)  -- overflow_mul-low
+    (λ c. search rules)  -- overflow_add-at-2
+    (λ c. search rules)  -- bounds-bytes-at
     (λ c κs. search rules)  -- digit-requires
-    (λ c. search rules)  -- add-low
-    (λ c. search rules)  -- add-result
+    (λ c. search rules)  -- overflow_add-low
+    (λ c. search rules)  -- overflow_add-result
     (λ c. search rules)  -- returns
     )

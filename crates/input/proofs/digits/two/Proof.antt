@@ -9,12 +9,12 @@ unfolding two_at
 two_spec =
     tie.close
     (tie.spec
-    (λ c. search rules)  -- shared-slice-read-digit
+    (λ c. search rules)  -- bounds-bytes-at
     (λ c κs. search rules)  -- digit-requires
-    (λ c. search rules)  -- mul-result
-    (λ c. search rules)  -- add-digit
-    (λ c. search rules)  -- shared-slice-read-digit-2
+    (λ c. search rules)  -- overflow_mul-result
+    (λ c. search rules)  -- overflow_add-at
+    (λ c. search rules)  -- bounds-bytes-at-2
     (λ c κs. search rules)  -- digit-requires-2
-    (λ c. search rules)  -- add-result
+    (λ c. search rules)  -- overflow_add-result
     (λ c. search rules)  -- returns
     )

@@ -7,13 +7,12 @@ pub line_spec : {M : Type 1} → statement M
 line_spec =
     tie.close
     (tie.spec
-    (λ c. search laws)
-    (λ c κs. search laws)
-    (λ c. search laws)
-    (λ c κs. search laws)
-    (λ c. search laws)
-    (λ c. search laws)
-    (λ c κs. search laws)
-    (λ c. search laws)
-    (λ c. search laws)
+    (λ c κs. search laws)  -- starts-requires
+    (λ c. search laws)  -- overflow_add-at
+    (λ c κs. search laws)  -- definition-requires
+    (λ c. search laws)  -- shape_of-out-then-starts
+    (λ c. search laws)  -- returns-then-starts
+    (λ c κs. search laws)  -- sentence-requires
+    (λ c. search laws)  -- shape_of-out
+    (λ c. search laws)  -- returns
     )

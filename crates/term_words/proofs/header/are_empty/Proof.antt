@@ -4,7 +4,7 @@ use Rattle.term_words.proofs.header.are_empty.Statement.{statement}
 use Rattle.term_words.proofs.header.are_empty.Tie as tie
 
 pub are_empty_spec : {M : Type 1} → statement M
-are_empty_spec = tie.close (tie.spec (λ c. search place-laws)  -- returns
-    (λ c. search place-laws)  -- returns-2
-    (λ c. search place-laws)  -- returns-3
+are_empty_spec = tie.close (tie.spec (λ c. search place-laws)  -- returns-then-z-eq-NO_NAME
+    (λ c. search place-laws)  -- returns-then-y-eq-NO_NAME
+    (λ c. search place-laws)  -- returns
     )

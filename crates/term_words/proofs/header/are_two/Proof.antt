@@ -6,10 +6,10 @@ use Rattle.term_words.proofs.header.are_two.Tie as tie
 pub are_two_spec : {M : Type 1} → statement M
 are_two_spec =
     tie.close
-    (tie.spec (λ c κs. search place-laws)  -- is-variable-requires
-    (λ c κs. search place-laws)  -- is-variable-requires-2
+    (tie.spec (λ c κs. search place-laws)  -- is_variable-requires
+    (λ c κs. search place-laws)  -- is_variable-requires-then-is_variable
+    (λ c. search place-laws)  -- returns-then-x-y
+    (λ c. search place-laws)  -- returns-then-is_variable-2
+    (λ c. search place-laws)  -- returns-then-is_variable
     (λ c. search place-laws)  -- returns
-    (λ c. search place-laws)  -- returns-2
-    (λ c. search place-laws)  -- returns-3
-    (λ c. search place-laws)  -- returns-4
     )

@@ -7,18 +7,18 @@ pub has_parameters_spec : {M : Type 1} → statement M
 has_parameters_spec =
     tie.close
     (tie.spec
-    (λ c κs. search param_laws)  -- are-empty-requires
-    (λ c. search param_laws)  -- returns
-    (λ c κs. search param_laws)  -- is-variable-requires
-    (λ c κs. search param_laws)  -- are-empty-requires-2
-    (λ c. search param_laws)  -- returns-2
-    (λ c κs. search param_laws)  -- are-two-requires
-    (λ c. search param_laws)  -- returns-3
-    (λ c κs. search param_laws)  -- are-two-requires-2
-    (λ c κs. search param_laws)  -- is-third-requires
-    (λ c. search param_laws)  -- returns-4
-    (λ c. search param_laws)  -- returns-5
-    (λ c. search param_laws)  -- returns-6
-    (λ c. search param_laws)  -- returns-7
-    (λ c. search param_laws)  -- returns-8
+    (λ c κs. search param_laws)  -- are_empty-requires
+    (λ c. search param_laws)  -- returns-then-x-eq-NO_NAME
+    (λ c κs. search param_laws)  -- is_variable-requires
+    (λ c κs. search param_laws)  -- are_empty-requires-then-is_variable
+    (λ c. search param_laws)  -- returns-then-is_variable
+    (λ c κs. search param_laws)  -- are_two-requires
+    (λ c. search param_laws)  -- returns-then-are_two
+    (λ c κs. search param_laws)  -- are_two-requires-in_default
+    (λ c κs. search param_laws)  -- is_third-requires
+    (λ c. search param_laws)  -- returns-then-are_two-2
+    (λ c. search param_laws)  -- returns-else-x-eq-NO_NAME
+    (λ c. search param_laws)  -- returns-else-is_variable
+    (λ c. search param_laws)  -- returns-else-are_two
+    (λ c. search param_laws)  -- returns-else-are_two-2
     )

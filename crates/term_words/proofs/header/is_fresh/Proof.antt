@@ -5,9 +5,9 @@ use Rattle.term_words.proofs.header.is_fresh.Tie as tie
 
 pub is_fresh_spec : {M : Type 1} → statement M
 is_fresh_spec =
-    tie.close (tie.spec (λ c. search fresh-laws)  -- cast-x
+    tie.close (tie.spec (λ c. search fresh-laws)  -- overflow_cast-x
+    (λ c. search fresh-laws)  -- returns-then-x-kept
+    (λ c. search fresh-laws)  -- returns-then-x-kept-2
+    (λ c. search fresh-laws)  -- returns-then-x-kept-3
     (λ c. search fresh-laws)  -- returns
-    (λ c. search fresh-laws)  -- returns-2
-    (λ c. search fresh-laws)  -- returns-3
-    (λ c. search fresh-laws)  -- returns-4
     )

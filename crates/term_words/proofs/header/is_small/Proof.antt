@@ -4,6 +4,6 @@ use Rattle.term_words.proofs.header.is_small.Statement.{statement}
 use Rattle.term_words.proofs.header.is_small.Tie as tie
 
 pub is_small_spec : {M : Type 1} → statement M
-is_small_spec = tie.close (tie.spec (λ c. search place-laws)  -- returns
-    (λ c. search place-laws)  -- returns-2
+is_small_spec = tie.close (tie.spec (λ c. search place-laws)  -- returns-then-p-le4
+    (λ c. search place-laws)  -- returns
     )

@@ -5,11 +5,11 @@ use Rattle.term_words.proofs.header.method_header.Tie as tie
 
 pub method_header_spec : {M : Type 1} → statement M
 method_header_spec =
-    tie.close (tie.spec (λ c κs. search method-laws)  -- is-name-requires
-    (λ c κs. search method-laws)  -- is-fresh-requires
-    (λ c κs. search method-laws)  -- has-parameters-requires
+    tie.close (tie.spec (λ c κs. search method-laws)  -- is_name-requires
+    (λ c κs. search method-laws)  -- is_fresh-requires
+    (λ c κs. search method-laws)  -- has_parameters-requires
+    (λ c. search method-laws)  -- returns-then-is_fresh
+    (λ c. search method-laws)  -- returns-then-is_name
+    (λ c. search method-laws)  -- returns-then-h-eq3
     (λ c. search method-laws)  -- returns
-    (λ c. search method-laws)  -- returns-2
-    (λ c. search method-laws)  -- returns-3
-    (λ c. search method-laws)  -- returns-4
     )

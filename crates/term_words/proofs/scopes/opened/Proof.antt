@@ -4,7 +4,7 @@ use Rattle.term_words.proofs.scopes.opened.Statement.{statement}
 use Rattle.term_words.proofs.scopes.opened.Tie as tie
 
 pub opened_spec : {M : Type 1} → statement M
-opened_spec = tie.close (tie.spec (λ c. search laws)  -- returns
-    (λ c. search laws)  -- add-result
-    (λ c. search laws)  -- returns-2
+opened_spec = tie.close (tie.spec (λ c. search laws)  -- returns-then-h-eq15
+    (λ c. search laws)  -- overflow_add-result
+    (λ c. search laws)  -- returns
     )

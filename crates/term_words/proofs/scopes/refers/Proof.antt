@@ -4,6 +4,6 @@ use Rattle.term_words.proofs.scopes.refers.Statement.{statement}
 use Rattle.term_words.proofs.scopes.refers.Tie as tie
 
 pub refers_spec : {M : Type 1} → statement M
-refers_spec = tie.close (tie.spec (λ c. search laws)  -- returns
-    (λ c. search laws)  -- returns-2
+refers_spec = tie.close (tie.spec (λ c. search laws)  -- returns-then-h-gt15
+    (λ c. search laws)  -- returns
     )

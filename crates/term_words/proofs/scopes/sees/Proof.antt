@@ -4,9 +4,9 @@ use Rattle.term_words.proofs.scopes.sees.Statement.{statement}
 use Rattle.term_words.proofs.scopes.sees.Tie as tie
 
 pub sees_spec : {M : Type 1} → statement M
-sees_spec = tie.close (tie.spec (λ c. search laws)  -- mul-if2
-    (λ c. search laws)  -- element-copy-out-if2
+sees_spec = tie.close (tie.spec (λ c. search laws)  -- offset_bounds-scope-x
+    (λ c. search laws)  -- bounds-scope-x
+    (λ c. search laws)  -- returns-then-scope-x
+    (λ c. search laws)  -- returns-then-x-lt-NO_NAME
     (λ c. search laws)  -- returns
-    (λ c. search laws)  -- returns-2
-    (λ c. search laws)  -- returns-3
     )

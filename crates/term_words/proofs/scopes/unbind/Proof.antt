@@ -7,11 +7,11 @@ pub unbind_spec : {M : Type 1} → statement M
 unbind_spec =
     tie.close
     (tie.spec
-    (λ c. search laws)  -- cast-swap
+    (λ c. search laws)  -- overflow_cast-names
     (λ c κs. search laws)  -- swap-requires
-    (λ c. search laws)  -- cast-swap-2
+    (λ c. search laws)  -- overflow_cast-names-2
     (λ c κs. search laws)  -- swap-requires-2
-    (λ c. search laws)  -- cast-swap-3
+    (λ c. search laws)  -- overflow_cast-names-3
     (λ c κs. search laws)  -- swap-requires-3
     (λ c. search laws)  -- returns
     )

@@ -4,8 +4,8 @@ use Rattle.term_words.proofs.word.is_variable.Statement.{statement}
 use Rattle.term_words.proofs.word.is_variable.Tie as tie
 
 pub is_variable_spec : {M : Type 1} → statement M
-is_variable_spec = tie.close (tie.spec (λ c. search name-laws)  -- returns
-    (λ c. search name-laws)  -- add-if2
-    (λ c. search name-laws)  -- returns-2
-    (λ c. search name-laws)  -- returns-3
+is_variable_spec = tie.close (tie.spec (λ c. search name-laws)  -- returns-then-x-eq0
+    (λ c. search name-laws)  -- overflow_add-words
+    (λ c. search name-laws)  -- returns-then-x-words
+    (λ c. search name-laws)  -- returns
     )

@@ -7,23 +7,23 @@ pub kind_of_spec : {M : Type 1} → statement M
 kind_of_spec =
     tie.close
     (tie.spec
-    (λ c. search kind-laws)  -- returns
-    (λ c κs. search kind-laws)  -- entity-no-requires
-    (λ c. search kind-laws)  -- enum-known-n
-    (λ c. search kind-laws)  -- mul-result
-    (λ c. search kind-laws)  -- cast-result
-    (λ c. search kind-laws)  -- add-result
-    (λ c. search kind-laws)  -- cast-result-2
-    (λ c. search kind-laws)  -- element-copy-out-result
-    (λ c. search kind-laws)  -- returns-2
-    (λ c. search kind-laws)  -- enum-known-n-2
-    (λ c. search kind-laws)  -- mul-result-2
-    (λ c. search kind-laws)  -- cast-result-3
-    (λ c. search kind-laws)  -- add-result-2
-    (λ c. search kind-laws)  -- add-result-3
-    (λ c. search kind-laws)  -- cast-result-4
-    (λ c. search kind-laws)  -- element-copy-out-result-2
-    (λ c. search kind-laws)  -- returns-3
-    (λ c. search kind-laws)  -- returns-4
-    (λ c. search kind-laws)  -- returns-5
+    (λ c. search kind-laws)  -- returns-then-b-ge4
+    (λ c κs. search kind-laws)  -- entity_no-requires
+    (λ c. search kind-laws)  -- enum_known-n
+    (λ c. search kind-laws)  -- overflow_mul-result
+    (λ c. search kind-laws)  -- overflow_cast-result
+    (λ c. search kind-laws)  -- overflow_add-result
+    (λ c. search kind-laws)  -- overflow_cast-result-then-n-lt32
+    (λ c. search kind-laws)  -- bounds-kinds-b
+    (λ c. search kind-laws)  -- returns-then-n-lt32
+    (λ c. search kind-laws)  -- enum_known-n-in-Copied-1
+    (λ c. search kind-laws)  -- overflow_mul-result-then-n-lt16
+    (λ c. search kind-laws)  -- overflow_cast-result-then-n-lt16
+    (λ c. search kind-laws)  -- overflow_add-result-then-n-lt16
+    (λ c. search kind-laws)  -- overflow_add-result-then-n-lt16-2
+    (λ c. search kind-laws)  -- overflow_cast-result-then-n-lt16-2
+    (λ c. search kind-laws)  -- bounds-kinds-b-then-n-lt16
+    (λ c. search kind-laws)  -- returns-then-n-lt16
+    (λ c. search kind-laws)  -- returns-else-n-lt32
+    (λ c. search kind-laws)  -- returns-else-n-lt16
     )

@@ -7,24 +7,24 @@ pub put_answer_spec : {M : Type 1} → statement M
 put_answer_spec =
     tie.close
     (tie.spec
-    (λ c. search laws)  -- enum-told
+    (λ c. search laws)  -- enum_told-1
     (λ c κs. search laws)  -- put-requires
-    (λ c. search laws)  -- enum-told-2
-    (λ c κs. search laws)  -- put-requires-2
-    (λ c. search laws)  -- enum-known-answer
-    (λ c κs. search laws)  -- put-named-requires
-    (λ c. search laws)  -- enum-known-answer-2
-    (λ c κs. search laws)  -- put-named-requires-2
-    (λ c. search laws)  -- enum-known-answer-3
-    (λ c κs. search laws)  -- put-cause-requires
-    (λ c. search laws)  -- same-length
-    (λ c. search laws)  -- returns
-    (λ c. search laws)  -- same-length-2
-    (λ c. search laws)  -- returns-2
-    (λ c. search laws)  -- same-length-3
-    (λ c. search laws)  -- returns-3
-    (λ c. search laws)  -- same-length-4
-    (λ c. search laws)  -- returns-4
-    (λ c. search laws)  -- same-length-5
-    (λ c. search laws)  -- returns-5
+    (λ c. search laws)  -- enum_told-in-Taken
+    (λ c κs. search laws)  -- put-requires-in-Taken
+    (λ c. search laws)  -- enum_known-answer
+    (λ c κs. search laws)  -- put_named-requires
+    (λ c. search laws)  -- enum_known-answer-in-Created-1
+    (λ c κs. search laws)  -- put_named-requires-in-Created
+    (λ c. search laws)  -- enum_known-answer-in-Refused-1
+    (λ c κs. search laws)  -- put_cause-requires
+    (λ c. search laws)  -- shape_of-text-in-Inner
+    (λ c. search laws)  -- returns-in-Inner
+    (λ c. search laws)  -- shape_of-text-in-Taken
+    (λ c. search laws)  -- returns-in-Taken
+    (λ c. search laws)  -- shape_of-text-in-Sent
+    (λ c. search laws)  -- returns-in-Sent
+    (λ c. search laws)  -- shape_of-text-in-Created
+    (λ c. search laws)  -- returns-in-Created
+    (λ c. search laws)  -- shape_of-text-in-Refused
+    (λ c. search laws)  -- returns-in-Refused
     )

@@ -4,8 +4,8 @@ use Rattle.transcript.proofs.answers.put_cause.Statement.{statement}
 use Rattle.transcript.proofs.answers.put_cause.Tie as tie
 
 pub put_cause_spec : {M : Type 1} → statement M
-put_cause_spec = tie.close (tie.spec (λ c κs. search laws)  -- wide-requires
-    (λ c κs. search laws)  -- put-number-requires
-    (λ c. search laws)  -- same-length
+put_cause_spec = tie.close (tie.spec (λ c κs. search laws)  -- wide-n-requires
+    (λ c κs. search laws)  -- put_number-requires
+    (λ c. search laws)  -- shape_of-text
     (λ c. search laws)  -- returns
     )

@@ -5,9 +5,9 @@ use Rattle.transcript.proofs.answers.put_named.Tie as tie
 
 pub put_named_spec : {M : Type 1} → statement M
 put_named_spec =
-    tie.close (tie.spec (λ c κs. search laws)  -- wide-requires
-    (λ c κs. search laws)  -- put-requires
-    (λ c κs. search laws)  -- put-number-requires
-    (λ c. search laws)  -- same-length
+    tie.close (tie.spec (λ c κs. search laws)  -- wide-n-requires
+    (λ c κs. search laws)  -- put-p-requires
+    (λ c κs. search laws)  -- put_number-requires
+    (λ c. search laws)  -- shape_of-text
     (λ c. search laws)  -- returns
     )
