@@ -92,7 +92,7 @@ pub ruleset fields-place = (place-more)
 
 pub ruleset fields-fall = (fall-more)
 
-pub ruleset Fields-back = (fields-full, fields-more, fields-none)
+pub ruleset fields-back = (fields-full, fields-more, fields-none)
 
 pub ruleset fields-misc = (rules, starts-room)
 

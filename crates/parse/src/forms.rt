@@ -15,7 +15,7 @@ use lexemes::names::{Name, spaced_word};
 use lexemes::scratch::{Listed, Step, close, head, head2, put};
 
 // An expression.
-#[cycle(args_arguments_between_bracket_expr_form_func_future_let_in_bodies_field_fields_literal_method_methods_message_one_parts_spaced)]
+#[cycle(expressions)]
 pub fn expr(
     text: &[u8],
     at: usize,
@@ -35,7 +35,7 @@ pub fn expr(
 }
 
 // An expression behind a space.
-#[cycle(args_arguments_between_bracket_expr_form_func_future_let_in_bodies_field_fields_literal_method_methods_message_one_parts_spaced)]
+#[cycle(expressions)]
 pub fn spaced(
     text: &[u8],
     at: usize,
@@ -55,7 +55,7 @@ pub fn spaced(
 }
 
 // What stands behind an opening bracket, by its operator.
-#[cycle(args_arguments_between_bracket_expr_form_func_future_let_in_bodies_field_fields_literal_method_methods_message_one_parts_spaced)]
+#[cycle(expressions)]
 fn bracket(
     text: &[u8],
     at: usize,
@@ -74,7 +74,7 @@ fn bracket(
 }
 
 // The form of the operator of kind `k`.
-#[cycle(args_arguments_between_bracket_expr_form_func_future_let_in_bodies_field_fields_literal_method_methods_message_one_parts_spaced)]
+#[cycle(expressions)]
 fn form(
     text: &[u8],
     at: usize,
@@ -114,7 +114,7 @@ fn form(
 }
 
 // `n` expressions and the closing bracket, with the expressions' words at `p` and the place of the head word `w` at `o`.
-#[cycle(args_arguments_between_bracket_expr_form_func_future_let_in_bodies_field_fields_literal_method_methods_message_one_parts_spaced)]
+#[cycle(expressions)]
 fn parts(
     text: &[u8],
     at: usize,
@@ -141,7 +141,7 @@ fn parts(
 }
 
 // The forms behind their operator, with the head word's place at `o`. One expression:
-#[cycle(args_arguments_between_bracket_expr_form_func_future_let_in_bodies_field_fields_literal_method_methods_message_one_parts_spaced)]
+#[cycle(expressions)]
 pub fn one(
     text: &[u8],
     at: usize,
@@ -159,7 +159,7 @@ pub fn one(
 }
 
 // An expression, a word and `n` expressions.
-#[cycle(args_arguments_between_bracket_expr_form_func_future_let_in_bodies_field_fields_literal_method_methods_message_one_parts_spaced)]
+#[cycle(expressions)]
 fn between(
     text: &[u8],
     at: usize,
@@ -188,7 +188,7 @@ fn between(
 }
 
 // A word, and two expressions in its scope.
-#[cycle(args_arguments_between_bracket_expr_form_func_future_let_in_bodies_field_fields_literal_method_methods_message_one_parts_spaced)]
+#[cycle(expressions)]
 fn let_in(
     text: &[u8],
     at: usize,
@@ -209,7 +209,7 @@ fn let_in(
 }
 
 // Two words, and an expression in their scope.
-#[cycle(args_arguments_between_bracket_expr_form_func_future_let_in_bodies_field_fields_literal_method_methods_message_one_parts_spaced)]
+#[cycle(expressions)]
 fn future(
     text: &[u8],
     at: usize,
@@ -236,7 +236,7 @@ fn future(
 }
 
 // A word, and an expression in its scope.
-#[cycle(args_arguments_between_bracket_expr_form_func_future_let_in_bodies_field_fields_literal_method_methods_message_one_parts_spaced)]
+#[cycle(expressions)]
 fn func(
     text: &[u8],
     at: usize,
@@ -257,7 +257,7 @@ fn func(
 }
 
 // Of a call, a send or an ask: who is asked, the name of the message, and its arguments.
-#[cycle(args_arguments_between_bracket_expr_form_func_future_let_in_bodies_field_fields_literal_method_methods_message_one_parts_spaced)]
+#[cycle(expressions)]
 fn message(
     text: &[u8],
     at: usize,
@@ -285,7 +285,7 @@ fn message(
 }
 
 // The arguments of the message `m`, with their words at `p` and the head word's place at `o`.
-#[cycle(args_arguments_between_bracket_expr_form_func_future_let_in_bodies_field_fields_literal_method_methods_message_one_parts_spaced)]
+#[cycle(expressions)]
 fn arguments(
     text: &[u8],
     at: usize,
@@ -309,7 +309,7 @@ fn arguments(
 }
 
 // Arguments to the closing bracket, with `b` before them and at most three in all.
-#[cycle(args_arguments_between_bracket_expr_form_func_future_let_in_bodies_field_fields_literal_method_methods_message_one_parts_spaced)]
+#[cycle(expressions)]
 fn args(
     text: &[u8],
     at: usize,

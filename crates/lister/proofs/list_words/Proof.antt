@@ -5,8 +5,8 @@ use Rattle.lister.proofs.list_words.Tie as tie
 
 pub list_words_spec : {M : Type 1} → statement M
 list_words_spec =
-    tie.close (tie.spec (λ c. search laws)  -- slice-aggregate-list-all
-    (λ c κs. search laws)  -- list-all-requires
-    (λ c. search laws)  -- same-length
+    tie.close (tie.spec (λ c. search laws)  -- slice_bounds-list_all-end
+    (λ c κs. search laws)  -- list_all-requires
+    (λ c. search laws)  -- shape_of-out
     (λ c. search laws)  -- returns
     )

@@ -8,17 +8,17 @@ pub put_counts_spec : {M : Type 1} → statement M
 put_counts_spec =
     tie.close
     (tie.spec
-    (λ c. search rules)  -- mul-put-spaced
-    (λ c. search rules)  -- shared-slice-read-put-spaced
-    (λ c κs. search rules)  -- put-spaced-requires
-    (λ c. search rules)  -- add-put-spaced
-    (λ c. search rules)  -- mul-put-spaced-2
-    (λ c. search rules)  -- shared-slice-read-put-spaced-2
-    (λ c κs. search rules)  -- put-spaced-requires-2
-    (λ c. search rules)  -- add-put-spaced-2
-    (λ c. search rules)  -- mul-put-spaced-3
-    (λ c. search rules)  -- shared-slice-read-put-spaced-3
-    (λ c κs. search rules)  -- put-spaced-requires-3
-    (λ c. search rules)  -- same-length
+    (λ c. search rules)  -- offset_bounds-t-at
+    (λ c. search rules)  -- bounds-t-at
+    (λ c κs. search rules)  -- put_spaced-a-requires
+    (λ c. search rules)  -- overflow_add-at
+    (λ c. search rules)  -- offset_bounds-t-at-2
+    (λ c. search rules)  -- bounds-t-at-2
+    (λ c κs. search rules)  -- put_spaced-b-requires
+    (λ c. search rules)  -- overflow_add-at-2
+    (λ c. search rules)  -- offset_bounds-t-at-3
+    (λ c. search rules)  -- bounds-t-at-3
+    (λ c κs. search rules)  -- put_spaced-requires
+    (λ c. search rules)  -- shape_of-out
     (λ c. search laws)  -- returns
     )

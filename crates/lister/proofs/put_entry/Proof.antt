@@ -5,8 +5,8 @@ use Rattle.lister.proofs.put_entry.Statement.{statement}
 use Rattle.lister.proofs.put_entry.Tie as tie
 
 pub put_entry_spec : {M : Type 1} → statement M
-put_entry_spec = tie.close (tie.spec (λ c κs. search rules)  -- put-kind-requires
-    (λ c κs. search rules)  -- put-number-requires
-    (λ c. search rules)  -- same-length
+put_entry_spec = tie.close (tie.spec (λ c κs. search rules)  -- put_kind-p-requires
+    (λ c κs. search rules)  -- put_number-requires
+    (λ c. search rules)  -- shape_of-out
     (λ c. search laws)  -- returns
     )

@@ -11,20 +11,16 @@ unfolding kind_in bytes
 put_kind_spec =
     tie.close
     (tie.spec
-    (λ c. search rules)  -- slice-aggregate-put-bytes
-    (λ c κs. search rules)  -- put-bytes-requires
-    (λ c. search rules)  -- slice-aggregate-put-bytes-2
-    (λ c κs. search rules)  -- put-bytes-requires-2
-    (λ c. search rules)  -- slice-aggregate-put-bytes-3
-    (λ c κs. search rules)  -- put-bytes-requires-3
-    (λ c. search rules)  -- slice-aggregate-put-bytes-4
-    (λ c κs. search rules)  -- put-bytes-requires-4
-    (λ c. search rules)  -- same-length
-    (λ c. search kinds)  -- returns
-    (λ c. search rules)  -- same-length-2
-    (λ c. search kinds)  -- returns-2
-    (λ c. search rules)  -- same-length-3
-    (λ c. search kinds)  -- returns-3
-    (λ c. search rules)  -- same-length-4
-    (λ c. search kinds)  -- returns-4
+    (λ c κs. search rules)  -- put_bytes-requires
+    (λ c κs. search rules)  -- put_bytes-requires-in-2
+    (λ c κs. search rules)  -- put_bytes-requires-in-5
+    (λ c κs. search rules)  -- put_bytes-requires-in_default
+    (λ c. search rules)  -- shape_of-out-in-1
+    (λ c. search kinds)  -- returns-in-1
+    (λ c. search rules)  -- shape_of-out-in-2
+    (λ c. search kinds)  -- returns-in-2
+    (λ c. search rules)  -- shape_of-out-in-5
+    (λ c. search kinds)  -- returns-in-5
+    (λ c. search rules)  -- shape_of-out-in_default
+    (λ c. search kinds)  -- returns-in_default
     )

@@ -8,10 +8,10 @@ pub put_opening_spec : {M : Type 1} → statement M
 put_opening_spec =
     tie.close
     (tie.spec
-    (λ c κs. search rules)  -- put-entry-requires
-    (λ c κs. search rules)  -- put-series-requires
-    (λ c κs. search rules)  -- put-number-requires
-    (λ c κs. search rules)  -- put-state-requires
-    (λ c. search rules)  -- same-length
+    (λ c κs. search rules)  -- put_entry-b-requires
+    (λ c κs. search rules)  -- put_series-c-requires
+    (λ c κs. search rules)  -- put_number-d-requires
+    (λ c κs. search rules)  -- put_state-requires
+    (λ c. search rules)  -- shape_of-out
     (λ c. search opening-whole)  -- returns
     )

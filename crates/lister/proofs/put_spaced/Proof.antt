@@ -5,8 +5,8 @@ use Rattle.lister.proofs.put_spaced.Statement.{statement}
 use Rattle.lister.proofs.put_spaced.Tie as tie
 
 pub put_spaced_spec : {M : Type 1} → statement M
-put_spaced_spec = tie.close (tie.spec (λ c κs. search rules)  -- put-requires
-    (λ c κs. search rules)  -- put-number-requires
-    (λ c. search rules)  -- same-length
+put_spaced_spec = tie.close (tie.spec (λ c κs. search rules)  -- put-p-requires
+    (λ c κs. search rules)  -- put_number-requires
+    (λ c. search rules)  -- shape_of-out
     (λ c. search laws)  -- returns
     )

@@ -8,17 +8,16 @@ pub put_state_spec : {M : Type 1} → statement M
 put_state_spec =
     tie.close
     (tie.spec
-    (λ c. search rules)  -- slice-aggregate-put-bytes
-    (λ c κs. search rules)  -- put-bytes-requires
-    (λ c. search rules)  -- same-length
+    (λ c κs. search rules)  -- put_bytes-requires
+    (λ c. search rules)  -- shape_of-out-then-k-eq3
+    (λ c. search laws)  -- returns-then-k-eq3
+    (λ c κs. search rules)  -- put-p-requires
+    (λ c κs. search rules)  -- put_leaf-requires
+    (λ c. search rules)  -- shape_of-out-then-k-eq4
+    (λ c. search laws)  -- returns-then-k-eq4
+    (λ c κs. search rules)  -- put-p-requires-then-k-eq5
+    (λ c κs. search rules)  -- put_number-requires
+    (λ c. search rules)  -- shape_of-out-then-k-eq5
+    (λ c. search laws)  -- returns-then-k-eq5
     (λ c. search laws)  -- returns
-    (λ c κs. search rules)  -- put-requires
-    (λ c κs. search rules)  -- put-leaf-requires
-    (λ c. search rules)  -- same-length-2
-    (λ c. search laws)  -- returns-2
-    (λ c κs. search rules)  -- put-requires-2
-    (λ c κs. search rules)  -- put-number-requires
-    (λ c. search rules)  -- same-length-3
-    (λ c. search laws)  -- returns-3
-    (λ c. search laws)  -- returns-4
     )

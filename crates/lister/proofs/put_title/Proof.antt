@@ -7,9 +7,9 @@ use Rattle.lister.proofs.put_title.Tie as tie
 pub put_title_spec : {M : Type 1} → statement M
 put_title_spec =
     tie.close
-    (tie.spec (λ c. search rules)  -- slice-aggregate-put-bytes
-    (λ c κs. search rules)  -- put-bytes-requires
-    (λ c κs. search rules)  -- put-spaced-requires
-    (λ c. search rules)  -- same-length
+    (tie.spec
+    (λ c κs. search rules)  -- put_bytes-p-requires
+    (λ c κs. search rules)  -- put_spaced-requires
+    (λ c. search rules)  -- shape_of-out
     (λ c. search laws)  -- returns
     )

@@ -8,14 +8,14 @@ pub show_actor_spec : {M : Type 1} → statement M
 show_actor_spec =
     tie.close
     (tie.spec
-    (λ c. search rules)  -- add-n
-    (λ c. search rules)  -- mul-n
-    (λ c. search rules)  -- shared-slice-read-n
-    (λ c. search rules)  -- cast-n
-    (λ c κs. search rules)  -- show-line-requires
-    (λ c κs. search rules)  -- show-entities-requires
-    (λ c. search rules)  -- add-show-inbox
-    (λ c κs. search rules)  -- show-inbox-requires
-    (λ c. search rules)  -- same-length
+    (λ c. search rules)  -- overflow_add-n
+    (λ c. search rules)  -- offset_bounds-t-at
+    (λ c. search rules)  -- bounds-t-at
+    (λ c. search rules)  -- overflow_cast-n
+    (λ c κs. search rules)  -- show_line-p-requires
+    (λ c κs. search rules)  -- show_entities-q-requires
+    (λ c. search rules)  -- overflow_add-at
+    (λ c κs. search rules)  -- show_inbox-requires
+    (λ c. search rules)  -- shape_of-out
     (λ c. search actor-whole)  -- returns
     )

@@ -8,20 +8,20 @@ pub show_entities_spec : {M : Type 1} → statement M
 show_entities_spec =
     tie.close
     (tie.spec
-    (λ c. search rules)  -- add-n
-    (λ c. search rules)  -- mul-n
-    (λ c. search rules)  -- shared-slice-read-n
-    (λ c. search rules)  -- cast-n
-    (λ c. search rules)  -- add-k
-    (λ c. search rules)  -- mul-k
-    (λ c. search rules)  -- shared-slice-read-k
-    (λ c. search rules)  -- cast-k
-    (λ c. search rules)  -- add-show-slots
-    (λ c. search rules)  -- add-show-slots-2
-    (λ c. search rules)  -- add-show-slots-3
-    (λ c κs. search rules)  -- show-slots-requires
-    (λ c. search rules)  -- add-show-slots-4
-    (λ c κs. search rules)  -- show-slots-requires-2
-    (λ c. search rules)  -- same-length
+    (λ c. search rules)  -- overflow_add-n
+    (λ c. search rules)  -- offset_bounds-t-at
+    (λ c. search rules)  -- bounds-t-at
+    (λ c. search rules)  -- overflow_cast-n
+    (λ c. search rules)  -- overflow_add-k
+    (λ c. search rules)  -- offset_bounds-t-at-2
+    (λ c. search rules)  -- bounds-t-at-2
+    (λ c. search rules)  -- overflow_cast-k
+    (λ c. search rules)  -- overflow_add-at
+    (λ c. search rules)  -- overflow_add-at-2
+    (λ c. search rules)  -- overflow_add-at-3
+    (λ c κs. search rules)  -- show_slots-m-requires
+    (λ c. search rules)  -- overflow_add-at-4
+    (λ c κs. search rules)  -- show_slots-c-requires
+    (λ c. search rules)  -- shape_of-out
     (λ c. search entities-whole)  -- returns
     )

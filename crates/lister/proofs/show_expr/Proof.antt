@@ -6,9 +6,9 @@ use Rattle.lister.proofs.show_expr.Tie as tie
 
 pub show_expr_spec : {M : Type 1} → statement M
 show_expr_spec =
-    tie.close (tie.spec (λ c κs. search rules)  -- put-requires
-    (λ c κs. search rules)  -- show-requires
-    (λ c κs. search rules)  -- put-end-requires
-    (λ c. search rules)  -- same-length
+    tie.close (tie.spec (λ c κs. search rules)  -- put-p-requires
+    (λ c κs. search rules)  -- show-r-requires
+    (λ c κs. search rules)  -- put_end-requires
+    (λ c. search rules)  -- shape_of-out
     (λ c. search laws)  -- returns
     )

@@ -8,10 +8,10 @@ pub show_line_spec : {M : Type 1} → statement M
 show_line_spec =
     tie.close
     (tie.spec
-    (λ c κs. search rules)  -- put-title-requires
-    (λ c κs. search rules)  -- put-counts-requires
-    (λ c. search rules)  -- add-show-expr
-    (λ c κs. search rules)  -- show-expr-requires
-    (λ c. search rules)  -- same-length
+    (λ c κs. search rules)  -- put_title-p-requires
+    (λ c κs. search rules)  -- put_counts-q-requires
+    (λ c. search rules)  -- overflow_add-at
+    (λ c κs. search rules)  -- show_expr-requires
+    (λ c. search rules)  -- shape_of-out
     (λ c. search laws)  -- returns
     )

@@ -8,12 +8,12 @@ pub show_parts_spec : {M : Type 1} → statement M
 show_parts_spec =
     tie.close
     (tie.spec
-    (λ c. search rules)  -- cast-show-fields
-    (λ c κs. search rules)  -- show-fields-requires
-    (λ c. search rules)  -- cast-show-operands
-    (λ c κs. search rules)  -- show-operands-requires
-    (λ c κs. search rules)  -- show-waiting-requires
-    (λ c κs. search rules)  -- put-end-requires
-    (λ c. search rules)  -- same-length
+    (λ c. search rules)  -- overflow_cast-h
+    (λ c κs. search rules)  -- show_fields-a-requires
+    (λ c. search rules)  -- overflow_cast-h-2
+    (λ c κs. search rules)  -- show_operands-m-requires
+    (λ c κs. search rules)  -- show_waiting-u-requires
+    (λ c κs. search rules)  -- put_end-p-requires
+    (λ c. search rules)  -- shape_of-out
     (λ c. search parts_whole)  -- returns
     )

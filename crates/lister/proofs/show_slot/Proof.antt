@@ -8,19 +8,19 @@ pub show_slot_spec : {M : Type 1} → statement M
 show_slot_spec =
     tie.close
     (tie.spec
-    (λ c. search rules)  -- mul-put-opening
-    (λ c. search rules)  -- shared-slice-read-put-opening
-    (λ c. search rules)  -- add-put-opening
-    (λ c. search rules)  -- mul-put-opening-2
-    (λ c. search rules)  -- shared-slice-read-put-opening-2
-    (λ c κs. search rules)  -- put-opening-requires
-    (λ c. search rules)  -- mul-show-parts
-    (λ c. search rules)  -- shared-slice-read-show-parts
-    (λ c. search rules)  -- add-show-parts
-    (λ c. search rules)  -- mul-show-parts-2
-    (λ c. search rules)  -- shared-slice-read-show-parts-2
-    (λ c. search rules)  -- add-show-parts-2
-    (λ c κs. search rules)  -- show-parts-requires
-    (λ c. search rules)  -- same-length
+    (λ c. search rules)  -- offset_bounds-t-at
+    (λ c. search rules)  -- bounds-t-at
+    (λ c. search rules)  -- overflow_add-at
+    (λ c. search rules)  -- offset_bounds-t-at-2
+    (λ c. search rules)  -- bounds-t-at-2
+    (λ c κs. search rules)  -- put_opening-p-requires
+    (λ c. search rules)  -- offset_bounds-t-at-3
+    (λ c. search rules)  -- bounds-t-at-3
+    (λ c. search rules)  -- overflow_add-at-2
+    (λ c. search rules)  -- offset_bounds-t-at-4
+    (λ c. search rules)  -- bounds-t-at-4
+    (λ c. search rules)  -- overflow_add-at-3
+    (λ c κs. search rules)  -- show_parts-requires
+    (λ c. search rules)  -- shape_of-out
     (λ c. search slot_whole)  -- returns
     )

@@ -8,13 +8,13 @@ pub load_table_spec : {M : Type 1} → statement M
 load_table_spec =
     tie.close
     (tie.spec
-    (λ c. search rules)  -- shared-slice-read-wide
-    (λ c κs. search rules)  -- wide-requires
-    (λ c κs. search rules)  -- emit-lines-requires
-    (λ c. search long-laws)  -- returns
+    (λ c. search rules)  -- bounds-t-1
+    (λ c κs. search rules)  -- wide-n-requires
+    (λ c κs. search rules)  -- emit_lines-o-requires
+    (λ c. search long-laws)  -- returns-then-o-gt-EXPR_SIZE
     (λ c κs. search rules)  -- nodes-requires
-    (λ c. search large-laws)  -- returns-2
-    (λ c κs. search rules)  -- write-state-requires
-    (λ c. search rules)  -- same-length
-    (λ c. search small-laws)  -- returns-3
+    (λ c. search large-laws)  -- returns-then-nodes-gt256
+    (λ c κs. search rules)  -- write_state-requires
+    (λ c. search rules)  -- shape_of-state
+    (λ c. search small-laws)  -- returns
     )

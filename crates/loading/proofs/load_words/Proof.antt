@@ -8,8 +8,8 @@ pub load_words_spec : {M : Type 1} → statement M
 load_words_spec =
     tie.close
     (tie.spec
-    (λ c. search published-laws)  -- slice-aggregate-t
-    (λ c κs. search published-laws)  -- load-table-requires
-    (λ c. search rules)  -- same-length
+    (λ c. search published-laws)  -- slice_bounds-t-end
+    (λ c κs. search published-laws)  -- load_table-requires
+    (λ c. search rules)  -- shape_of-state
     (λ c. search published-laws)  -- returns
     )

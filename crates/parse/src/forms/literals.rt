@@ -11,7 +11,7 @@ use lexemes::names::{Name, word_at};
 use lexemes::scratch::{Listed, Step, close, head, literal_head};
 
 // Fields and methods.
-#[cycle(args_arguments_between_bracket_expr_form_func_future_let_in_bodies_field_fields_literal_method_methods_message_one_parts_spaced)]
+#[cycle(expressions)]
 pub fn literal(
     text: &[u8],
     at: usize,
@@ -33,7 +33,7 @@ pub fn literal(
 }
 
 // The methods of a literal with `c` fields and its closing bracket, with their words at `p` and the head word's place at `o`.
-#[cycle(args_arguments_between_bracket_expr_form_func_future_let_in_bodies_field_fields_literal_method_methods_message_one_parts_spaced)]
+#[cycle(expressions)]
 fn bodies(
     text: &[u8],
     at: usize,
@@ -57,7 +57,7 @@ fn bodies(
 }
 
 // Fields, with `b` before them and at most four in all.
-#[cycle(args_arguments_between_bracket_expr_form_func_future_let_in_bodies_field_fields_literal_method_methods_message_one_parts_spaced)]
+#[cycle(expressions)]
 fn fields(
     text: &[u8],
     at: usize,
@@ -81,7 +81,7 @@ fn fields(
 }
 
 // A field behind its opening, and those after it.
-#[cycle(args_arguments_between_bracket_expr_form_func_future_let_in_bodies_field_fields_literal_method_methods_message_one_parts_spaced)]
+#[cycle(expressions)]
 fn field(
     text: &[u8],
     at: usize,
@@ -109,7 +109,7 @@ fn field(
 }
 
 // Methods, in the same way.
-#[cycle(args_arguments_between_bracket_expr_form_func_future_let_in_bodies_field_fields_literal_method_methods_message_one_parts_spaced)]
+#[cycle(expressions)]
 fn methods(
     text: &[u8],
     at: usize,
@@ -132,7 +132,7 @@ fn methods(
     Listed::Items(at, o, b)
 }
 
-#[cycle(args_arguments_between_bracket_expr_form_func_future_let_in_bodies_field_fields_literal_method_methods_message_one_parts_spaced)]
+#[cycle(expressions)]
 fn method(
     text: &[u8],
     at: usize,

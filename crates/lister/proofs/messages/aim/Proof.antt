@@ -8,11 +8,11 @@ pub aim_spec : {M : Type 1} → statement M
 aim_spec =
     tie.close
     (tie.spec
+    (λ c. search laws)  -- returns-then-t-at
+    (λ c. search rules)  -- offset_bounds-t-at
+    (λ c. search rules)  -- bounds-t-at
+    (λ c. search rules)  -- offset_bounds-t-at-then-t-at-eq3
+    (λ c. search rules)  -- bounds-t-at-then-t-at-eq3
+    (λ c. search laws)  -- returns-then-t-at-eq3
     (λ c. search laws)  -- returns
-    (λ c. search rules)  -- mul-if2
-    (λ c. search rules)  -- shared-slice-read-if2
-    (λ c. search rules)  -- mul-result
-    (λ c. search rules)  -- shared-slice-read-result
-    (λ c. search laws)  -- returns-2
-    (λ c. search laws)  -- returns-3
     )

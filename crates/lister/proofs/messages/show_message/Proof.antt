@@ -10,16 +10,15 @@ unfolding bytes
 show_message_spec =
     tie.close
     (tie.spec
-    (λ c. search rules)  -- mul-h
-    (λ c. search rules)  -- shared-slice-read-h
-    (λ c. search rules)  -- slice-aggregate-put-bytes
-    (λ c κs. search rules)  -- put-bytes-requires
-    (λ c. search rules)  -- add-show-operands
-    (λ c. search rules)  -- cast-show-operands
-    (λ c. search rules)  -- add-show-operands-2
-    (λ c. search rules)  -- cast-show-operands-2
-    (λ c κs. search rules)  -- show-operands-requires
+    (λ c. search rules)  -- offset_bounds-t-at
+    (λ c. search rules)  -- bounds-t-at
+    (λ c κs. search rules)  -- put_bytes-p-requires
+    (λ c. search rules)  -- overflow_add-at
+    (λ c. search rules)  -- overflow_cast-h
+    (λ c. search rules)  -- overflow_add-h
+    (λ c. search rules)  -- overflow_cast-h-2
+    (λ c κs. search rules)  -- show_operands-r-requires
     (λ c κs. search rules)  -- put-requires
-    (λ c. search rules)  -- same-length
+    (λ c. search rules)  -- shape_of-out
     (λ c. search message-whole)  -- returns
     )

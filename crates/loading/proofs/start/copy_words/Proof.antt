@@ -8,27 +8,27 @@ use Rattle.loading.specs.Start.{Copying}
 use Rattle.loading.proofs.start.copy_words.Statement.{statement}
 use Rattle.loading.proofs.start.copy_words.Tie as tie
 
-abbrev invariant-loop : tie.invariant-loop
-invariant-loop from at n to₀ o i₀ to i = Copying from at n to₀ o to i × (i ≤ n) × (length to ≡ length to₀)
+abbrev invariant-loop-i : tie.invariant-loop-i
+invariant-loop-i from at n to₀ o i₀ to i = Copying from at n to₀ o to i × (i ≤ n) × (length to ≡ length to₀)
 
-abbrev decreases-loop : tie.decreases-loop
-decreases-loop from at n to₀ o i₀ to i = n - i
+abbrev decreases-loop-i : tie.decreases-loop-i
+decreases-loop-i from at n to₀ o i₀ to i = n - i
 
 pub copy_words_spec : {M : Type 1} → statement M
 copy_words_spec =
     tie.close
     (tie.spec
-    invariant-loop
-    decreases-loop
-    (λ c. search copy-laws)  -- loop-holds
-    (λ c. search rules)  -- add-store
-    (λ c. search rules)  -- add-store-2
-    (λ c. search rules)  -- mul-store
-    (λ c. search rules)  -- shared-slice-read-store
+    invariant-loop-i
+    decreases-loop-i
+    (λ c. search copy-laws)  -- loop-i-init
+    (λ c. search rules)  -- overflow_add-o
+    (λ c. search rules)  -- overflow_add-at
+    (λ c. search rules)  -- offset_bounds-from-at
+    (λ c. search rules)  -- bounds-from-at
     (λ c κs. search rules)  -- store-requires
-    (λ c. search rules)  -- add-i
-    (λ c. search rules)  -- loop-less
-    (λ c. search copy-laws)  -- loop-again
-    (λ c. search copy-laws)  -- same-length
+    (λ c. search rules)  -- overflow_add-i
+    (λ c. search rules)  -- loop-i-smaller
+    (λ c. search copy-laws)  -- loop-i-preserved
+    (λ c. search copy-laws)  -- shape_of-to
     (λ c. search copy-laws)  -- returns
     )

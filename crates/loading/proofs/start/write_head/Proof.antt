@@ -9,10 +9,10 @@ write_head_spec =
     tie.close
     (tie.spec
     (λ c κs. search rules)  -- store-requires
-    (λ c. search rules)  -- shared-slice-read-store
+    (λ c. search rules)  -- bounds-t-0
     (λ c κs. search rules)  -- store-requires-2
-    (λ c κs. search rules)  -- copy-words-requires
+    (λ c κs. search rules)  -- copy_words-requires
     (λ c κs. search rules)  -- clear-requires
-    (λ c. search rules)  -- same-length
+    (λ c. search rules)  -- shape_of-state
     (λ c. search write-laws)  -- returns
     )

@@ -8,8 +8,8 @@ pub write_state_spec : {M : Type 1} → statement M
 write_state_spec =
     tie.close
     (tie.spec
-    (λ c κs. search rules)  -- write-head-requires
-    (λ c κs. search rules)  -- write-part-requires
-    (λ c. search rules)  -- same-length
+    (λ c κs. search rules)  -- write_head-requires
+    (λ c κs. search rules)  -- write_part-requires
+    (λ c. search rules)  -- shape_of-state
     (λ c. search write-laws)  -- returns
     )
