@@ -10,7 +10,7 @@ use layout::{DIGIT, NAME_LIMIT, NO_NAME, PAIR_LIMIT, PAYLOAD, STATE_SLOTS, TAGGE
 use term_words::{header, scopes, word};
 
 // What holds where a term stands: whose it is, how many words the state has, whether it may refer, and the level of its scope.
-#[derive(Drop)]
+#[derive(Clone, Copy)]
 pub struct Context {
     pub actor: u32,
     pub words: u32,

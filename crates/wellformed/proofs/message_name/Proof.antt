@@ -8,11 +8,11 @@ message_name_spec =
     tie.close
     (tie.spec
     (λ c κs. search message-laws)  -- named-requires
-    (λ c κs. search message-laws)  -- named-requires-2
+    (λ c κs. search message-laws)  -- named-requires-in-1
     (λ c κs. search message-laws)  -- lone-requires
-    (λ c κs. search message-laws)  -- lone-requires-2
-    (λ c. search message-laws)  -- returns
-    (λ c. search message-laws)  -- returns-2
-    (λ c. search message-laws)  -- returns-3
-    (λ c. search message-laws)  -- returns-4
+    (λ c κs. search message-laws)  -- lone-requires-in_default
+    (λ c. search message-laws)  -- returns-in-0
+    (λ c. search message-laws)  -- returns-in-1
+    (λ c. search message-laws)  -- returns-in-2
+    (λ c. search message-laws)  -- returns-in_default
     )

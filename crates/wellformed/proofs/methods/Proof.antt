@@ -4,9 +4,9 @@ use Rattle.wellformed.proofs.methods.Statement.{statement}
 use Rattle.wellformed.proofs.methods.Tie as tie
 
 pub methods_spec : {M : Type 1} → statement M
-methods_spec = tie.close (tie.spec (λ c. search laws)  -- returns
-    (λ c. search laws)  -- returns-2
-    (λ c. search laws)  -- array-write-scope
-    (λ c κs. search laws)  -- methods-from-requires
-    (λ c. search laws)  -- returns-3
+methods_spec = tie.close (tie.spec (λ c. search laws)  -- returns-then-count-eq0
+    (λ c. search laws)  -- returns-then-count-gt4
+    (λ c. search laws)  -- bounds-scope-0
+    (λ c κs. search laws)  -- methods_from-requires
+    (λ c. search laws)  -- returns
     )

@@ -5,7 +5,7 @@ use Rattle.wellformed.proofs.term.leaf.Tie as tie
 
 pub leaf_spec : {M : Type 1} → statement M
 leaf_spec = tie.close (tie.spec (λ c κs. search leaf-laws)  -- sees-requires
-    (λ c. search leaf-laws)  -- returns
+    (λ c. search leaf-laws)  -- returns-then-h-eq6
     (λ c κs. search leaf-laws)  -- value-requires
-    (λ c. search leaf-laws)  -- returns-2
+    (λ c. search leaf-laws)  -- returns
     )

@@ -7,12 +7,12 @@ pub message_operands_spec : {M : Type 1} → statement M
 message_operands_spec =
     tie.close
     (tie.spec
-    (λ c κs. search operand-laws)  -- arguments-requires
-    (λ c κs. search operand-laws)  -- call-name-requires
+    (λ c κs. search operand-laws)  -- arguments-n-requires
+    (λ c κs. search operand-laws)  -- call_name-requires
     (λ c κs. search operand-laws)  -- counted-requires
-    (λ c κs. search operand-laws)  -- message-name-requires
-    (λ c κs. search operand-laws)  -- counted-requires-2
-    (λ c. search operand-laws)  -- returns
-    (λ c. search operand-laws)  -- returns-2
-    (λ c. search operand-laws)  -- returns-3
+    (λ c κs. search operand-laws)  -- message_name-requires
+    (λ c κs. search operand-laws)  -- counted-requires-in-14
+    (λ c. search operand-laws)  -- returns-in-13
+    (λ c. search operand-laws)  -- returns-in-14
+    (λ c. search operand-laws)  -- returns-in_default
     )

@@ -9,14 +9,14 @@ operands_spec =
     (tie.spec
     (λ c κs. search operand-laws)  -- operator-requires
     (λ c κs. search operand-laws)  -- operands-requires
-    (λ c. search operand-laws)  -- cast-counted
+    (λ c. search operand-laws)  -- overflow_cast-operands
     (λ c κs. search operand-laws)  -- counted-requires
-    (λ c κs. search operand-laws)  -- is-name-requires
-    (λ c κs. search operand-laws)  -- operands-requires-2
-    (λ c. search operand-laws)  -- cast-counted-2
-    (λ c κs. search operand-laws)  -- counted-requires-2
-    (λ c κs. search operand-laws)  -- message-operands-requires
-    (λ c. search operand-laws)  -- returns
-    (λ c. search operand-laws)  -- returns-2
-    (λ c. search operand-laws)  -- returns-3
+    (λ c κs. search operand-laws)  -- is_name-requires
+    (λ c κs. search operand-laws)  -- operands-requires-in-2
+    (λ c. search operand-laws)  -- overflow_cast-operands-in-2
+    (λ c κs. search operand-laws)  -- counted-requires-in-2
+    (λ c κs. search operand-laws)  -- message_operands-requires
+    (λ c. search operand-laws)  -- returns-in-1
+    (λ c. search operand-laws)  -- returns-in-2
+    (λ c. search operand-laws)  -- returns-in_default
     )
