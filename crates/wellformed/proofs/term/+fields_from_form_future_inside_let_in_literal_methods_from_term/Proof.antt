@@ -138,11 +138,11 @@ term-at t = and 3 term-kinds.ps (is 3 term-kinds.ps μ-term t) term.Pre
 abbrev term-below : ℕ → In 3 term-kinds.ps
 term-below t = and 3 term-kinds.ps (falls 3 term-kinds.ps ◌<◌ μ-term t) term.Pre
 
-abbrev term-Inv-loop : term-lts.invariant-loop
+abbrev term-Inv-loop : term-lts.invariant-loop-left
 term-Inv-loop w at scope₀ kinds e i₀ left₀ scope i left =
     Left e.words (holds e.refs kinds e.actor) scope₀ e.level w at left i × Kept scope₀ scope × (at ≤ i) × (i ≤ 4096) × (left ≤ third_place * i + 1)
 
-abbrev term-μ-loop : term-lts.decreases-loop
+abbrev term-μ-loop : term-lts.decreases-loop-left
 term-μ-loop w at scope₀ kinds e i₀ left₀ scope i left = length w - i
 
 pub +fields_from_form_future_inside_let_in_literal_methods_from_term_spec :
