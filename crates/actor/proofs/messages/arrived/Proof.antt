@@ -7,13 +7,13 @@ pub arrived_spec : {M : Type 1} → statement M
 arrived_spec =
     tie.close
     (tie.spec
-    (λ c. search arrived-laws)  -- add-x
-    (λ c. search arrived-laws)  -- mul-x
-    (λ c. search arrived-laws)  -- shared-slice-read-x
-    (λ c. search arrived-laws)  -- add-if1
-    (λ c. search arrived-laws)  -- returns
+    (λ c. search arrived-laws)  -- overflow_add-x
+    (λ c. search arrived-laws)  -- offset_bounds-w-at
+    (λ c. search arrived-laws)  -- bounds-w-at
+    (λ c. search arrived-laws)  -- overflow_add-a
+    (λ c. search arrived-laws)  -- returns-then-x-a
     (λ c κs. search arrived-laws)  -- value-requires
     (λ c κs. search arrived-laws)  -- sent-requires
-    (λ c. search arrived-laws)  -- returns-2
-    (λ c. search arrived-laws)  -- returns-3
+    (λ c. search arrived-laws)  -- returns-then-value
+    (λ c. search arrived-laws)  -- returns
     )

@@ -7,19 +7,19 @@ pub sent_spec : {M : Type 1} → statement M
 sent_spec =
     tie.close
     (tie.spec
-    (λ c. search sent-laws)  -- mul-x
-    (λ c. search sent-laws)  -- shared-slice-read-x
-    (λ c. search sent-laws)  -- returns
-    (λ c. search sent-laws)  -- cast-n
-    (λ c. search sent-laws)  -- returns-2
-    (λ c κs. search sent-laws)  -- message-name-requires
-    (λ c. search sent-laws)  -- add-values
+    (λ c. search sent-laws)  -- offset_bounds-w-at
+    (λ c. search sent-laws)  -- bounds-w-at
+    (λ c. search sent-laws)  -- returns-then-x-ne14
+    (λ c. search sent-laws)  -- overflow_cast-n
+    (λ c. search sent-laws)  -- returns-then-n-ge5
+    (λ c κs. search sent-laws)  -- message_name-requires
+    (λ c. search sent-laws)  -- overflow_add-at
     (λ c κs. search sent-laws)  -- values-requires
-    (λ c. search sent-laws)  -- add-zeros
-    (λ c. search sent-laws)  -- add-zeros-2
-    (λ c. search sent-laws)  -- sub-zeros
+    (λ c. search sent-laws)  -- overflow_add-at-then-values
+    (λ c. search sent-laws)  -- overflow_add-at-then-values-2
+    (λ c. search sent-laws)  -- overflow_sub-n
     (λ c κs. search sent-laws)  -- zeros-requires
-    (λ c. search sent-laws)  -- returns-3
-    (λ c. search sent-laws)  -- returns-4
-    (λ c. search sent-laws)  -- returns-5
+    (λ c. search sent-laws)  -- returns-then-values
+    (λ c. search sent-laws)  -- returns-then-message_name
+    (λ c. search sent-laws)  -- returns
     )

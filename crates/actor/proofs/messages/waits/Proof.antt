@@ -7,20 +7,20 @@ pub waits_spec : {M : Type 1} → statement M
 waits_spec =
     tie.close
     (tie.spec
-    (λ c. search waits-laws)  -- add-x
-    (λ c. search waits-laws)  -- mul-x
-    (λ c. search waits-laws)  -- shared-slice-read-x
-    (λ c. search waits-laws)  -- mul-if1
-    (λ c. search waits-laws)  -- add-if1
-    (λ c. search waits-laws)  -- returns
-    (λ c. search waits-laws)  -- cast-n
-    (λ c. search waits-laws)  -- returns-2
-    (λ c. search waits-laws)  -- returns-3
-    (λ c. search waits-laws)  -- mul-if4
-    (λ c. search waits-laws)  -- add-if4
-    (λ c. search waits-laws)  -- mul-if4-2
-    (λ c. search waits-laws)  -- shared-slice-read-if4
-    (λ c. search waits-laws)  -- returns-4
+    (λ c. search waits-laws)  -- overflow_add-x
+    (λ c. search waits-laws)  -- offset_bounds-w-at
+    (λ c. search waits-laws)  -- bounds-w-at
+    (λ c. search waits-laws)  -- overflow_mul-a
+    (λ c. search waits-laws)  -- overflow_add-a
+    (λ c. search waits-laws)  -- returns-then-x-a
+    (λ c. search waits-laws)  -- overflow_cast-n
+    (λ c. search waits-laws)  -- returns-then-n-low
+    (λ c. search waits-laws)  -- returns-then-m-n
+    (λ c. search waits-laws)  -- overflow_mul-n
+    (λ c. search waits-laws)  -- overflow_add-n
+    (λ c. search waits-laws)  -- offset_bounds-w-n
+    (λ c. search waits-laws)  -- bounds-w-n
+    (λ c. search waits-laws)  -- returns-then-w-n-ne3
     (λ c κs. search waits-laws)  -- sent-requires
-    (λ c. search waits-laws)  -- returns-5
+    (λ c. search waits-laws)  -- returns
     )

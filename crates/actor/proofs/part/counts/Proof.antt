@@ -7,14 +7,14 @@ pub counts_spec : {M : Type 1} → statement M
 counts_spec =
     tie.close
     (tie.spec
-    (λ c. search counts-laws)  -- shared-slice-read-if1
+    (λ c. search counts-laws)  -- bounds-part-1
+    (λ c. search counts-laws)  -- returns-then-part-gt32
+    (λ c. search counts-laws)  -- bounds-part-2
+    (λ c. search counts-laws)  -- returns-then-part-gt16
+    (λ c. search counts-laws)  -- bounds-part-3
+    (λ c. search counts-laws)  -- returns-then-part-gt16-2
+    (λ c. search counts-laws)  -- bounds-part-4
+    (λ c. search counts-laws)  -- returns-then-part-gt16-3
+    (λ c. search counts-laws)  -- bounds-part-5
     (λ c. search counts-laws)  -- returns
-    (λ c. search counts-laws)  -- shared-slice-read-if2
-    (λ c. search counts-laws)  -- returns-2
-    (λ c. search counts-laws)  -- shared-slice-read-if3
-    (λ c. search counts-laws)  -- returns-3
-    (λ c. search counts-laws)  -- shared-slice-read-if4
-    (λ c. search counts-laws)  -- returns-4
-    (λ c. search counts-laws)  -- shared-slice-read-result
-    (λ c. search counts-laws)  -- returns-5
     )

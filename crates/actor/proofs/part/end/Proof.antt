@@ -7,22 +7,22 @@ pub end_spec : {M : Type 1} → statement M
 end_spec =
     tie.close
     (tie.spec
-    (λ c. search end-laws)  -- returns
-    (λ c. search end-laws)  -- shared-slice-read-c
-    (λ c. search end-laws)  -- cast-c
-    (λ c. search end-laws)  -- mul-zeros
-    (λ c. search end-laws)  -- add-zeros
-    (λ c. search end-laws)  -- mul-zeros-2
-    (λ c. search end-laws)  -- sub-zeros
+    (λ c. search end-laws)  -- returns-then-d-gt-BODIES_SIZE
+    (λ c. search end-laws)  -- bounds-part-2
+    (λ c. search end-laws)  -- overflow_cast-c
+    (λ c. search end-laws)  -- overflow_mul-c
+    (λ c. search end-laws)  -- overflow_add-c
+    (λ c. search end-laws)  -- overflow_mul-c-2
+    (λ c. search end-laws)  -- overflow_sub-c
     (λ c κs. search end-laws)  -- zeros-requires
-    (λ c. search end-laws)  -- sub-nodes
-    (λ c. search end-laws)  -- part-nodes-start
-    (λ c. search end-laws)  -- part-nodes-end
+    (λ c. search end-laws)  -- slice_bounds-nodes-count
+    (λ c. search end-laws)  -- slice_bounds-nodes-start
+    (λ c. search end-laws)  -- slice_bounds-nodes-end
     (λ c κs. search end-laws)  -- nodes-requires
-    (λ c. search end-laws)  -- returns-2
-    (λ c. search end-laws)  -- add-zeros-2
-    (λ c. search end-laws)  -- sub-zeros-2
-    (λ c κs. search end-laws)  -- zeros-requires-2
-    (λ c. search end-laws)  -- returns-3
-    (λ c. search end-laws)  -- returns-4
+    (λ c. search end-laws)  -- returns-then-nodes-gt768
+    (λ c. search end-laws)  -- overflow_add-d
+    (λ c. search end-laws)  -- overflow_sub-d
+    (λ c κs. search end-laws)  -- zeros-requires-then-zeros
+    (λ c. search end-laws)  -- returns-then-zeros
+    (λ c. search end-laws)  -- returns
     )

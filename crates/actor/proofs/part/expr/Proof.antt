@@ -7,17 +7,17 @@ pub expr_spec : {M : Type 1} → statement M
 expr_spec =
     tie.close
     (tie.spec
-    (λ c. search expr-laws)  -- shared-slice-read-n
-    (λ c. search expr-laws)  -- cast-n
-    (λ c. search expr-laws)  -- sub-region
-    (λ c. search expr-laws)  -- part-region-start
-    (λ c. search expr-laws)  -- part-region-end
-    (λ c κs. search expr-laws)  -- expression-requires
-    (λ c. search expr-laws)  -- returns
+    (λ c. search expr-laws)  -- bounds-part-5
+    (λ c. search expr-laws)  -- overflow_cast-n
+    (λ c. search expr-laws)  -- slice_bounds-region-count
+    (λ c. search expr-laws)  -- slice_bounds-region-start
+    (λ c. search expr-laws)  -- slice_bounds-region-end
+    (λ c κs. search expr-laws)  -- expression-e-requires
+    (λ c. search expr-laws)  -- returns-then-e-n
     (λ c κs. search expr-laws)  -- nodes-requires
-    (λ c. search expr-laws)  -- returns-2
-    (λ c. search expr-laws)  -- add-zeros
-    (λ c. search expr-laws)  -- sub-zeros
+    (λ c. search expr-laws)  -- returns-then-nodes-gt256
+    (λ c. search expr-laws)  -- overflow_add-n
+    (λ c. search expr-laws)  -- overflow_sub-n
     (λ c κs. search expr-laws)  -- zeros-requires
-    (λ c. search expr-laws)  -- returns-3
+    (λ c. search expr-laws)  -- returns
     )

@@ -6,10 +6,10 @@ use Rattle.actor.proofs.part.head.Tie as tie
 pub head_spec : {M : Type 1} → statement M
 head_spec =
     tie.close
-    (tie.spec (λ c. search head-laws)  -- shared-slice-read-if1
-    (λ c. search head-laws)  -- returns
+    (tie.spec (λ c. search head-laws)  -- bounds-part-0
+    (λ c. search head-laws)  -- returns-then-part-gt-MOST
     (λ c κs. search head-laws)  -- counts-requires
     (λ c κs. search head-laws)  -- zeros-requires
-    (λ c. search head-laws)  -- returns-2
-    (λ c. search head-laws)  -- returns-3
+    (λ c. search head-laws)  -- returns-then-counts
+    (λ c. search head-laws)  -- returns
     )

@@ -7,14 +7,14 @@ pub inbox_spec : {M : Type 1} → statement M
 inbox_spec =
     tie.close
     (tie.spec
-    (λ c. search inbox-part-laws)  -- shared-slice-read-n
-    (λ c. search inbox-part-laws)  -- cast-n
+    (λ c. search inbox-part-laws)  -- bounds-part-3
+    (λ c. search inbox-part-laws)  -- overflow_cast-n
     (λ c κs. search inbox-part-laws)  -- inbox-requires
-    (λ c. search inbox-part-laws)  -- mul-zeros
-    (λ c. search inbox-part-laws)  -- add-zeros
-    (λ c. search inbox-part-laws)  -- mul-zeros-2
-    (λ c. search inbox-part-laws)  -- sub-zeros
+    (λ c. search inbox-part-laws)  -- overflow_mul-n
+    (λ c. search inbox-part-laws)  -- overflow_add-n
+    (λ c. search inbox-part-laws)  -- overflow_mul-n-then-inbox
+    (λ c. search inbox-part-laws)  -- overflow_sub-n
     (λ c κs. search inbox-part-laws)  -- zeros-requires
+    (λ c. search inbox-part-laws)  -- returns-then-inbox
     (λ c. search inbox-part-laws)  -- returns
-    (λ c. search inbox-part-laws)  -- returns-2
     )

@@ -8,7 +8,7 @@ is_actor_spec =
     tie.close (tie.spec (λ c κs. search actor-laws)  -- head-requires
     (λ c κs. search actor-laws)  -- expr-requires
     (λ c κs. search actor-laws)  -- rest-requires
+    (λ c. search actor-laws)  -- returns-then-expr
+    (λ c. search actor-laws)  -- returns-then-head
     (λ c. search actor-laws)  -- returns
-    (λ c. search actor-laws)  -- returns-2
-    (λ c. search actor-laws)  -- returns-3
     )

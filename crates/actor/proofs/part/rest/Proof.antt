@@ -8,7 +8,7 @@ rest_spec =
     tie.close (tie.spec (λ c κs. search rest-laws)  -- inbox-requires
     (λ c κs. search rest-laws)  -- waiting-requires
     (λ c κs. search rest-laws)  -- heap-requires
+    (λ c. search rest-laws)  -- returns-then-waiting
+    (λ c. search rest-laws)  -- returns-then-inbox
     (λ c. search rest-laws)  -- returns
-    (λ c. search rest-laws)  -- returns-2
-    (λ c. search rest-laws)  -- returns-3
     )

@@ -7,16 +7,16 @@ pub waiting_spec : {M : Type 1} → statement M
 waiting_spec =
     tie.close
     (tie.spec
-    (λ c. search waiting-part-laws)  -- shared-slice-read-n
-    (λ c. search waiting-part-laws)  -- cast-n
-    (λ c. search waiting-part-laws)  -- shared-slice-read-m
-    (λ c. search waiting-part-laws)  -- cast-m
+    (λ c. search waiting-part-laws)  -- bounds-part-4
+    (λ c. search waiting-part-laws)  -- overflow_cast-n
+    (λ c. search waiting-part-laws)  -- bounds-part-1
+    (λ c. search waiting-part-laws)  -- overflow_cast-m
     (λ c κs. search waiting-part-laws)  -- waiting-requires
-    (λ c. search waiting-part-laws)  -- mul-zeros
-    (λ c. search waiting-part-laws)  -- add-zeros
-    (λ c. search waiting-part-laws)  -- mul-zeros-2
-    (λ c. search waiting-part-laws)  -- sub-zeros
+    (λ c. search waiting-part-laws)  -- overflow_mul-n
+    (λ c. search waiting-part-laws)  -- overflow_add-n
+    (λ c. search waiting-part-laws)  -- overflow_mul-n-then-waiting
+    (λ c. search waiting-part-laws)  -- overflow_sub-n
     (λ c κs. search waiting-part-laws)  -- zeros-requires
+    (λ c. search waiting-part-laws)  -- returns-then-waiting
     (λ c. search waiting-part-laws)  -- returns
-    (λ c. search waiting-part-laws)  -- returns-2
     )

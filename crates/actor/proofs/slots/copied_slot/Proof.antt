@@ -7,12 +7,12 @@ pub copied_slot_spec : {M : Type 1} → statement M
 copied_slot_spec =
     tie.close
     (tie.spec
-    (λ c. search copied-slot-laws)  -- mul-if1
-    (λ c. search copied-slot-laws)  -- shared-slice-read-if1
-    (λ c. search copied-slot-laws)  -- returns
-    (λ c. search copied-slot-laws)  -- mul-if2
-    (λ c. search copied-slot-laws)  -- shared-slice-read-if2
-    (λ c. search copied-slot-laws)  -- returns-2
+    (λ c. search copied-slot-laws)  -- offset_bounds-w-at
+    (λ c. search copied-slot-laws)  -- bounds-w-at
+    (λ c. search copied-slot-laws)  -- returns-then-w-at
+    (λ c. search copied-slot-laws)  -- offset_bounds-w-at-2
+    (λ c. search copied-slot-laws)  -- bounds-w-at-2
+    (λ c. search copied-slot-laws)  -- returns-then-w-at-ne2
     (λ c κs. search copied-slot-laws)  -- object-requires
-    (λ c. search copied-slot-laws)  -- returns-3
+    (λ c. search copied-slot-laws)  -- returns
     )

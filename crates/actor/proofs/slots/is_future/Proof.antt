@@ -4,7 +4,7 @@ use Rattle.actor.proofs.slots.is_future.Statement.{statement}
 use Rattle.actor.proofs.slots.is_future.Tie as tie
 
 pub is_future_spec : {M : Type 1} → statement M
-is_future_spec = tie.close (tie.spec (λ c. search kind-laws)  -- returns
-    (λ c. search kind-laws)  -- returns-2
-    (λ c. search kind-laws)  -- returns-3
+is_future_spec = tie.close (tie.spec (λ c. search kind-laws)  -- returns-in-3
+    (λ c. search kind-laws)  -- returns-in-4
+    (λ c. search kind-laws)  -- returns-in_default
     )

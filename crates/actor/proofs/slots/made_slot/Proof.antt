@@ -7,23 +7,23 @@ pub made_slot_spec : {M : Type 1} → statement M
 made_slot_spec =
     tie.close
     (tie.spec
-    (λ c. search made-slot-laws)  -- mul-if1
-    (λ c. search made-slot-laws)  -- shared-slice-read-if1
-    (λ c. search made-slot-laws)  -- returns
-    (λ c. search made-slot-laws)  -- mul-match
-    (λ c. search made-slot-laws)  -- shared-slice-read-match
+    (λ c. search made-slot-laws)  -- offset_bounds-w-at
+    (λ c. search made-slot-laws)  -- bounds-w-at
+    (λ c. search made-slot-laws)  -- returns-then-w-at
+    (λ c. search made-slot-laws)  -- offset_bounds-w-at-2
+    (λ c. search made-slot-laws)  -- bounds-w-at-2
     (λ c κs. search made-slot-laws)  -- object-requires
-    (λ c κs. search made-slot-laws)  -- object-requires-2
+    (λ c κs. search made-slot-laws)  -- object-requires-in-2
     (λ c κs. search made-slot-laws)  -- open-requires
-    (λ c κs. search made-slot-laws)  -- end-if-requires
+    (λ c κs. search made-slot-laws)  -- end_if-requires
     (λ c κs. search made-slot-laws)  -- settled-requires
-    (λ c κs. search made-slot-laws)  -- end-if-requires-2
+    (λ c κs. search made-slot-laws)  -- end_if-requires-in-4
     (λ c κs. search made-slot-laws)  -- resolver-requires
-    (λ c κs. search made-slot-laws)  -- end-if-requires-3
-    (λ c. search made-slot-laws)  -- returns-2
-    (λ c. search made-slot-laws)  -- returns-3
-    (λ c. search made-slot-laws)  -- returns-4
-    (λ c. search made-slot-laws)  -- returns-5
-    (λ c. search made-slot-laws)  -- returns-6
-    (λ c. search made-slot-laws)  -- returns-7
+    (λ c κs. search made-slot-laws)  -- end_if-requires-in-5
+    (λ c. search made-slot-laws)  -- returns-in-1
+    (λ c. search made-slot-laws)  -- returns-in-2
+    (λ c. search made-slot-laws)  -- returns-in-3
+    (λ c. search made-slot-laws)  -- returns-in-4
+    (λ c. search made-slot-laws)  -- returns-in-5
+    (λ c. search made-slot-laws)  -- returns-in_default
     )

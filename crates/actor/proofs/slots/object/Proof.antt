@@ -7,24 +7,24 @@ pub object_spec : {M : Type 1} → statement M
 object_spec =
     tie.close
     (tie.spec
-    (λ c. search object-laws)  -- mul-methods
-    (λ c. search object-laws)  -- shared-slice-read-methods
-    (λ c. search object-laws)  -- cast-methods
-    (λ c κs. search object-laws)  -- methods-requires
-    (λ c. search object-laws)  -- mul-fields
-    (λ c. search object-laws)  -- shared-slice-read-fields
-    (λ c. search object-laws)  -- cast-fields
+    (λ c. search object-laws)  -- offset_bounds-w-at
+    (λ c. search object-laws)  -- bounds-w-at
+    (λ c. search object-laws)  -- overflow_cast-w
+    (λ c κs. search object-laws)  -- methods-e-requires
+    (λ c. search object-laws)  -- offset_bounds-w-at-2
+    (λ c. search object-laws)  -- bounds-w-at-2
+    (λ c. search object-laws)  -- overflow_cast-w-2
     (λ c κs. search object-laws)  -- fields-requires
-    (λ c. search object-laws)  -- add-if2
-    (λ c. search object-laws)  -- mul-if2
-    (λ c. search object-laws)  -- shared-slice-read-if2
+    (λ c. search object-laws)  -- overflow_add-at
+    (λ c. search object-laws)  -- offset_bounds-w-at-then-fields
+    (λ c. search object-laws)  -- bounds-w-at-then-fields
+    (λ c. search object-laws)  -- returns-then-w-at-ne0
+    (λ c. search object-laws)  -- overflow_add-at-then-fields
+    (λ c. search object-laws)  -- offset_bounds-w-at-then-fields-2
+    (λ c. search object-laws)  -- bounds-w-at-then-fields-2
+    (λ c κs. search object-laws)  -- wide-size-requires
+    (λ c. search object-laws)  -- overflow_add-b
+    (λ c. search object-laws)  -- returns-then-b-size
+    (λ c. search object-laws)  -- returns-then-fields
     (λ c. search object-laws)  -- returns
-    (λ c. search object-laws)  -- add-wide
-    (λ c. search object-laws)  -- mul-wide
-    (λ c. search object-laws)  -- shared-slice-read-wide
-    (λ c κs. search object-laws)  -- wide-requires
-    (λ c. search object-laws)  -- add-if3
-    (λ c. search object-laws)  -- returns-2
-    (λ c. search object-laws)  -- returns-3
-    (λ c. search object-laws)  -- returns-4
     )

@@ -5,8 +5,8 @@ use Rattle.actor.proofs.slots.open.Tie as tie
 
 pub open_spec : {M : Type 1} → statement M
 open_spec = tie.close (tie.spec (λ c κs. search open-laws)  -- plain-requires
-    (λ c. search open-laws)  -- add-zeros
+    (λ c. search open-laws)  -- overflow_add-at
     (λ c κs. search open-laws)  -- zeros-requires
+    (λ c. search open-laws)  -- returns-then-plain
     (λ c. search open-laws)  -- returns
-    (λ c. search open-laws)  -- returns-2
     )

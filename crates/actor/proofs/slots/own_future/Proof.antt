@@ -7,11 +7,11 @@ pub own_future_spec : {M : Type 1} → statement M
 own_future_spec =
     tie.close
     (tie.spec
+    (λ c. search own-laws)  -- returns-then-n-ge32
+    (λ c. search own-laws)  -- overflow_mul-a
+    (λ c. search own-laws)  -- overflow_add-a
+    (λ c. search own-laws)  -- overflow_cast-a
+    (λ c. search own-laws)  -- bounds-kinds-a
+    (λ c κs. search own-laws)  -- is_future-requires
     (λ c. search own-laws)  -- returns
-    (λ c. search own-laws)  -- mul-is-future
-    (λ c. search own-laws)  -- add-is-future
-    (λ c. search own-laws)  -- cast-is-future
-    (λ c. search own-laws)  -- element-copy-out-is-future
-    (λ c κs. search own-laws)  -- is-future-requires
-    (λ c. search own-laws)  -- returns-2
     )

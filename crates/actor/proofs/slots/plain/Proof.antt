@@ -7,11 +7,11 @@ pub plain_spec : {M : Type 1} → statement M
 plain_spec =
     tie.close
     (tie.spec
-    (λ c. search plain-laws)  -- mul-if1
-    (λ c. search plain-laws)  -- shared-slice-read-if1
+    (λ c. search plain-laws)  -- offset_bounds-w-at
+    (λ c. search plain-laws)  -- bounds-w-at
+    (λ c. search plain-laws)  -- returns-then-w-at-ne0
+    (λ c. search plain-laws)  -- overflow_add-result
+    (λ c. search plain-laws)  -- offset_bounds-w-at-2
+    (λ c. search plain-laws)  -- bounds-w-at-2
     (λ c. search plain-laws)  -- returns
-    (λ c. search plain-laws)  -- add-result
-    (λ c. search plain-laws)  -- mul-result
-    (λ c. search plain-laws)  -- shared-slice-read-result
-    (λ c. search plain-laws)  -- returns-2
     )

@@ -8,13 +8,13 @@ resolver_spec =
     tie.close
     (tie.spec
     (λ c κs. search resolver-laws)  -- plain-requires
-    (λ c. search resolver-laws)  -- add-own-future
-    (λ c. search resolver-laws)  -- mul-own-future
-    (λ c. search resolver-laws)  -- shared-slice-read-own-future
-    (λ c κs. search resolver-laws)  -- own-future-requires
-    (λ c. search resolver-laws)  -- add-zeros
+    (λ c. search resolver-laws)  -- overflow_add-at
+    (λ c. search resolver-laws)  -- offset_bounds-w-at
+    (λ c. search resolver-laws)  -- bounds-w-at
+    (λ c κs. search resolver-laws)  -- own_future-requires
+    (λ c. search resolver-laws)  -- overflow_add-at-then-own_future
     (λ c κs. search resolver-laws)  -- zeros-requires
+    (λ c. search resolver-laws)  -- returns-then-own_future
+    (λ c. search resolver-laws)  -- returns-then-plain
     (λ c. search resolver-laws)  -- returns
-    (λ c. search resolver-laws)  -- returns-2
-    (λ c. search resolver-laws)  -- returns-3
     )

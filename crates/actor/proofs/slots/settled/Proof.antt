@@ -8,18 +8,18 @@ settled_spec =
     tie.close
     (tie.spec
     (λ c κs. search settled-laws)  -- plain-requires
-    (λ c. search settled-laws)  -- add-value
-    (λ c. search settled-laws)  -- mul-value
-    (λ c. search settled-laws)  -- shared-slice-read-value
+    (λ c. search settled-laws)  -- overflow_add-at
+    (λ c. search settled-laws)  -- offset_bounds-w-at
+    (λ c. search settled-laws)  -- bounds-w-at
     (λ c κs. search settled-laws)  -- value-requires
-    (λ c. search settled-laws)  -- add-future
-    (λ c. search settled-laws)  -- mul-future
-    (λ c. search settled-laws)  -- shared-slice-read-future
+    (λ c. search settled-laws)  -- overflow_add-at-then-value
+    (λ c. search settled-laws)  -- offset_bounds-w-at-then-value
+    (λ c. search settled-laws)  -- bounds-w-at-then-value
     (λ c κs. search settled-laws)  -- future-requires
-    (λ c. search settled-laws)  -- returns
-    (λ c. search settled-laws)  -- add-zeros
+    (λ c. search settled-laws)  -- returns-then-future
+    (λ c. search settled-laws)  -- overflow_add-at-then-value-2
     (λ c κs. search settled-laws)  -- zeros-requires
-    (λ c. search settled-laws)  -- returns-2
-    (λ c. search settled-laws)  -- returns-3
-    (λ c. search settled-laws)  -- returns-4
+    (λ c. search settled-laws)  -- returns-then-value
+    (λ c. search settled-laws)  -- returns-then-plain
+    (λ c. search settled-laws)  -- returns
     )

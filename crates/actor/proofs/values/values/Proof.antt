@@ -5,18 +5,18 @@ use lib.ListN.{length}
 use Rattle.actor.proofs.values.values.Statement.{statement}
 use Rattle.actor.proofs.values.values.Tie as tie
 
-abbrev invariant-loop : tie.invariant-loop
-invariant-loop w at n a kinds i₀ left₀ i left = Left kinds a w n at left i × (i + left ≤ length w)
+abbrev invariant-loop-left : tie.invariant-loop-left
+invariant-loop-left w at n a kinds i₀ left₀ i left = Left kinds a w n at left i × (i + left ≤ length w)
 
-abbrev decreases-loop : tie.decreases-loop
-decreases-loop w at n a kinds i₀ left₀ i left = left
+abbrev decreases-loop-left : tie.decreases-loop-left
+decreases-loop-left w at n a kinds i₀ left₀ i left = left
 
 pub values_spec : {M : Type 1} → statement M
 values_spec =
     tie.close
     (tie.spec
-    invariant-loop
-    decreases-loop
+    invariant-loop-left
+    decreases-loop-left
     (λ c. search values-laws)  -- loop-holds
     (λ c. search values-laws)
     (λ c. search values-laws)

@@ -7,11 +7,11 @@ pub zeros_spec : {M : Type 1} → statement M
 zeros_spec =
     tie.close
     (tie.spec
-    (λ c. search zeros-laws)  -- add-end
-    (λ c. search zeros-laws)  -- mul-all-zero
-    (λ c. search zeros-laws)  -- sub-all-zero
-    (λ c. search zeros-laws)  -- part-all-zero-start
-    (λ c. search zeros-laws)  -- part-all-zero-end
-    (λ c κs. search zeros-laws)  -- all-zero-requires
+    (λ c. search zeros-laws)  -- overflow_add-end
+    (λ c. search zeros-laws)  -- offset_bounds-w-at
+    (λ c. search zeros-laws)  -- slice_bounds-all_zero-count
+    (λ c. search zeros-laws)  -- slice_bounds-all_zero-start
+    (λ c. search zeros-laws)  -- slice_bounds-all_zero-end
+    (λ c κs. search zeros-laws)  -- all_zero-requires
     (λ c. search zeros-laws)  -- returns
     )
