@@ -7,11 +7,11 @@ pub are_actors_spec : {M : Type 1} → statement M
 are_actors_spec =
     tie.close
     (tie.spec
-    (λ c. search laws)  -- shared-slice-read-wide
-    (λ c κs. search laws)  -- wide-requires
-    (λ c. search laws)  -- shared-slice-read-k
-    (λ c κs. search laws)  -- fill-kinds-requires
-    (λ c κs. search laws)  -- are-parts-requires
+    (λ c. search laws)  -- bounds-w-0
+    (λ c κs. search laws)  -- wide-n-requires
+    (λ c. search laws)  -- bounds-w-1
+    (λ c κs. search laws)  -- fill_kinds-requires
+    (λ c κs. search laws)  -- are_parts-requires
+    (λ c. search laws)  -- returns-then-fill_kinds
     (λ c. search laws)  -- returns
-    (λ c. search laws)  -- returns-2
     )

@@ -6,10 +6,10 @@ use Rattle.state.proofs.list_text.Tie as tie
 pub list_text_spec : {M : Type 1} → statement M
 list_text_spec =
     tie.close
-    (tie.spec (λ c. search laws)  -- returns
-    (λ c κs. search laws)  -- is-state-requires
-    (λ c κs. search laws)  -- list-state-requires
-    (λ c. search laws)  -- same-length
-    (λ c. search laws)  -- returns-2
-    (λ c. search laws)  -- returns-3
+    (tie.spec (λ c. search laws)  -- returns-then-state-lt-STATE
+    (λ c κs. search laws)  -- is_state-requires
+    (λ c κs. search laws)  -- list_state-requires
+    (λ c. search laws)  -- shape_of-text-then-is_state
+    (λ c. search laws)  -- returns-then-is_state
+    (λ c. search laws)  -- returns
     )

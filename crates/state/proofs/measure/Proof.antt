@@ -4,7 +4,7 @@ use Rattle.state.proofs.measure.Statement.{statement}
 use Rattle.state.proofs.measure.Tie as tie
 
 pub measure_spec : {M : Type 1} → statement M
-measure_spec = tie.close (tie.spec (λ c. search laws)  -- slice-aggregate-list-words
-    (λ c κs. search laws)  -- list-words-requires
+measure_spec = tie.close (tie.spec (λ c. search laws)  -- slice_bounds-list_words-end
+    (λ c κs. search laws)  -- list_words-requires
     (λ c. search laws)  -- returns
     )

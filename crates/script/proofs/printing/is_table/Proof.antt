@@ -7,10 +7,10 @@ pub is_table_spec : {M : Type 1} → statement M
 is_table_spec =
     tie.close
     (tie.spec
-    (λ c. search laws)  -- slice-aggregate-print-table
-    (λ c κs. search laws)  -- print-table-requires
-    (λ c. search laws)  -- enum-known-p
-    (λ c. search laws)  -- enum-known-p-2
-    (λ c. search laws)  -- returns
-    (λ c. search laws)  -- returns-2
+    (λ c. search laws)  -- slice_bounds-print_table-end
+    (λ c κs. search laws)  -- print_table-p-requires
+    (λ c. search laws)  -- enum_known-p
+    (λ c. search laws)  -- enum_known-p-in-Refused-1
+    (λ c. search laws)  -- returns-in-Bytes
+    (λ c. search laws)  -- returns-in-Refused
     )
