@@ -9,7 +9,4 @@ unfolding ListsCall
 returns c = search rules
 
 pub list_spec : {M : Type 1} → statement M
-list_spec = tie.close (tie.spec
-    (λ c κs. search rules)  -- list_text-requires
-    (λ c. search rules)  -- shape_of-text
-    (λ c. search rules)  -- returns returns)
+list_spec = tie.close (tie.spec (λ c κs. search rules) (λ c. search rules) returns)

@@ -9,7 +9,4 @@ unfolding Prints
 returns c = search rules
 
 pub print_spec : {M : Type 1} → statement M
-print_spec = tie.close (tie.spec
-    (λ c κs. search rules)  -- print_table-requires
-    (λ c. search rules)  -- shape_of-text
-    (λ c. search rules)  -- returns returns)
+print_spec = tie.close (tie.spec (λ c κs. search rules) (λ c. search rules) returns)

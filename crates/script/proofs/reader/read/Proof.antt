@@ -9,7 +9,4 @@ unfolding Reads
 returns c = search rules
 
 pub read_spec : {M : Type 1} → statement M
-read_spec = tie.close (tie.spec
-    (λ c κs. search rules)  -- read_text-requires
-    (λ c. search rules)  -- shape_of-table
-    (λ c. search rules)  -- returns returns)
+read_spec = tie.close (tie.spec (λ c κs. search rules) (λ c. search rules) returns)
