@@ -7,13 +7,13 @@ pub load_lent_spec : {M : Type 1} → statement M
 load_lent_spec =
     tie.close
     (tie.spec
+    (λ c. search laws)  -- returns-then-table-lt-TABLE
+    (λ c. search laws)  -- returns-then-state-lt-STATE
+    (λ c κs. search laws)  -- is_table-requires
+    (λ c κs. search laws)  -- load_words-requires
+    (λ c. search laws)  -- shape_of-state-then-load_words
+    (λ c. search laws)  -- returns-then-load_words
+    (λ c. search laws)  -- shape_of-state-then-is_table
+    (λ c. search laws)  -- returns-then-is_table
     (λ c. search laws)  -- returns
-    (λ c. search laws)  -- returns-2
-    (λ c κs. search laws)  -- is-table-requires
-    (λ c κs. search laws)  -- load-words-requires
-    (λ c. search laws)  -- same-length
-    (λ c. search laws)  -- returns-3
-    (λ c. search laws)  -- same-length-2
-    (λ c. search laws)  -- returns-4
-    (λ c. search laws)  -- returns-5
     )
