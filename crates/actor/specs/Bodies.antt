@@ -9,7 +9,8 @@ use Rattle.decoding.specs.ValidTest.{well_formed, well_formed_methods}
 use Rattle.atlite_laws.specs.Facts.{and₂, both₂}
 use Rattle.invariant.specs.TermTests.{Is, wf-to, wf-from, methods-to, methods-from}
 use Rattle.layout_laws.specs.Parse.{got, parse_methods}
-use Rattle.layout_laws.specs.ParseLaws.{parse, parse-iff, methods-iff}
+use Rattle.layout_laws.specs.ParseLaws.{parse}
+use Rattle.layout_laws.proofs.ParseLaws.{parse-iff, methods-iff}
 use Rattle.term_words.specs.Kinds.{allowed}
 use Rattle.term_words.specs.Words.{holds}
 use Rattle.term_words.specs.Ends.{end_of, methods_hold}

@@ -23,7 +23,8 @@ use Rattle.layout.specs.Layout.{encode_message, slots, bodies, queues, encode_ac
 use Rattle.layout_laws.specs.Slots.{slots_length, queues-fit}
 use Rattle.layout_laws.specs.Parts.{ActorFits, messages-length, from_counts, from_copied, from_bodies, counts, regions, from-expr, from-inbox, from-waiting, from-made, from-copied, from-bodies}
 use Rattle.layout_laws.specs.StateFits.{WithinActor, within-to}
-use Rattle.layout_laws.specs.Arity.{nodes_in, nodes-append, term-nodes, bodies-nodes}
+use Rattle.layout_laws.specs.Arity.{nodes_in, nodes-append}
+use Rattle.layout_laws.proofs.Arity.{term-nodes, bodies-nodes}
 use Rattle.layout_laws.specs.Parse.{zeros_at}
 use Rattle.layout_laws.specs.Spans.{Spans}
 use Rattle.term_words.specs.Kinds.{allowed, future_by}

@@ -24,7 +24,7 @@ use Rattle.layout.specs.Layout.{slot_head, tag_number, slot, entity_methods}
 use Rattle.layout_laws.specs.Slots.{EntityFits, head-kind}
 use Rattle.layout_laws.specs.Parse.{value_at, zeros_at}
 use Rattle.layout_laws.specs.ParseWords.{value-sound, value_read}
-use Rattle.layout_laws.specs.ParseMessages.{zeros-at, zeros-read}
+use Rattle.layout_laws.proofs.ParseMessages.{zeros-at, zeros-read}
 use Rattle.layout_laws.specs.Spans.{Spans, drop-next, drop-first, span_none, span-end, span-join}
 use Rattle.term_words.specs.Kinds.{kind_at, kind_of, allowed, future_by}
 use Rattle.term_words.specs.Words.{within}

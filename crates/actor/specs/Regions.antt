@@ -9,7 +9,7 @@ use Rattle.layout.specs.Pack.{zeros, pad}
 use Rattle.layout_laws.specs.PackLaws.{pad-front}
 use Rattle.layout_laws.specs.Writes.{zeros-split}
 use Rattle.layout_laws.specs.Parse.{zeros_at}
-use Rattle.layout_laws.specs.ParseMessages.{zeros-at, zeros-read}
+use Rattle.layout_laws.proofs.ParseMessages.{zeros-at, zeros-read}
 use Rattle.layout_laws.specs.Spans.{Spans, drop_past, span_of, span-end, span-join}
 use Rattle.actor.specs.Objects.{span-is}
 

@@ -22,7 +22,8 @@ use Rattle.layout.specs.Layout.{encode_message, slots, bodies, queues, encode_ac
 use Rattle.layout_laws.specs.Slots.{EntitiesFit}
 use Rattle.layout_laws.specs.Parts.{ActorFits}
 use Rattle.layout_laws.specs.StateFits.{isolate-waits, queues-count}
-use Rattle.layout_laws.specs.Arity.{nodes_in, nodes-append, term-nodes, bodies-nodes}
+use Rattle.layout_laws.specs.Arity.{nodes_in, nodes-append}
+use Rattle.layout_laws.proofs.Arity.{term-nodes, bodies-nodes}
 use Rattle.layout_laws.specs.Parse.{zeros_at}
 use Rattle.layout_laws.specs.Spans.{Spans, span-join, span-end}
 use Rattle.term_words.specs.Kinds.{allowed, future_by}

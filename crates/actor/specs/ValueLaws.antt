@@ -13,7 +13,7 @@ use Rattle.layout.specs.Pack.{zeros}
 use Rattle.layout_laws.specs.PackLaws.{length-zeros}
 use Rattle.decoding.specs.Reading.{names_in}
 use Rattle.layout_laws.specs.Parse.{value_at, before, values_at, zeros_at}
-use Rattle.layout_laws.specs.ParseMessages.{zeros-at, zeros-read}
+use Rattle.layout_laws.proofs.ParseMessages.{zeros-at, zeros-read}
 use Rattle.words.specs.Runs.{Same}
 use Rattle.term_words.specs.Kinds.{allowed}
 use Rattle.term_words.specs.Words.{within, holds}

@@ -9,7 +9,8 @@ use Rattle.atlite.specs.Table.{count_fields, count_methods, Grammatical, Grammat
 use Rattle.atlite.specs.Script.{SrcOp, Src, num, null, var, op, let_in, future, fn, when, literal, Srcs, nil, cons, SrcFields, no_field, field, SrcMethods, no_method, method, count_srcs}
 use Rattle.layout.specs.Numbers.{field_kind}
 use Rattle.layout_laws.specs.PackLaws.{Each}
-use Rattle.layout_laws.specs.Signatures.{signed, Below, signed-distinct}
+use Rattle.layout_laws.specs.Signatures.{signed, Below}
+use Rattle.layout_laws.proofs.Signatures.{signed-distinct}
 use Rattle.layout_laws.specs.LastThree.{distinct_from, from-none, kept, kept_fresh}
 use Rattle.layout.specs.Terms.{kind_number}
 use Rattle.layout.specs.Tables.{src_kind}

@@ -23,8 +23,8 @@ use Rattle.layout.specs.Tables.{encode_src, encode_srcs, encode_fields, encode_s
 use Rattle.layout_laws.specs.TermReads.{label_small}
 use Rattle.layout_laws.specs.KindRows.{op-kind, kind-range}
 use Rattle.layout_laws.specs.Parse.{unary, binary, many, parts}
-use Rattle.layout_laws.specs.ParseHeads.{head-op, head-let, head-future, head-literal}
-use Rattle.layout_laws.specs.Arity.{head-wants}
+use Rattle.layout_laws.proofs.ParseHeads.{head-op, head-let, head-future, head-literal}
+use Rattle.layout_laws.proofs.Arity.{head-wants}
 use Rattle.printer.specs.Nesting.{nesting, nesting_all, nesting_fields, nesting_methods}
 use Rattle.loading.specs.Expanding.{expand_op_with, Self, outside, held, itself, self_term, expand_with, expand_all_with, expand_fields_with, expand_methods_with}
 use Rattle.loading.specs.ExpandedWords.{leaf_in, closure_words, ask_words, resolver_words, waiter_words}

@@ -28,7 +28,8 @@ use Rattle.layout_laws.specs.Writes.{zeros-split}
 use Rattle.layout.specs.Terms.{encode_term}
 use Rattle.layout_laws.specs.TermLaws.{Fits, term-length}
 use Rattle.layout_laws.specs.Fitting.{plain_fits, fits-term}
-use Rattle.layout_laws.specs.Arity.{nodes_in, term-nodes}
+use Rattle.layout_laws.specs.Arity.{nodes_in}
+use Rattle.layout_laws.proofs.Arity.{term-nodes}
 use Rattle.layout.specs.Layout.{encode_word, encode}
 use Rattle.layout_laws.specs.StateReads.{words-three}
 use Rattle.layout.specs.Tables.{encode_line, encode_table}

@@ -25,8 +25,9 @@ use Rattle.decoding.specs.Kinds.{row_in, word_in}
 use Rattle.layout_laws.specs.KindRows.{op-kind, Row, is_bare, is_field, is_call, is_send, row, SrcRow, src-row}
 use Rattle.layout_laws.specs.KindLaws.{Unasked, bare-row, bare-unasked, field_row}
 use Rattle.layout_laws.specs.Parse.{many}
-use Rattle.layout_laws.specs.ParseHeads.{head-op}
-use Rattle.layout_laws.specs.Arity.{arity, head-wants}
+use Rattle.layout_laws.proofs.ParseHeads.{head-op}
+use Rattle.layout_laws.specs.Arity.{arity}
+use Rattle.layout_laws.proofs.Arity.{head-wants}
 use Rattle.layout_laws.specs.Fitting.{shape-fits}
 use Rattle.showing.specs.TextOfWords.{name_in, first_in, second, params_in, after, after_in, operator_in, head_in, TextOfWords·all}
 use Rattle.showing.specs.Spelling.{Spells}

@@ -20,8 +20,9 @@ use Rattle.layout_laws.specs.PackLaws.{NameFits, Each}
 use Rattle.layout.specs.Terms.{variable, series_bit, encode_value, tagged, asked, kind_number, method_header}
 use Rattle.layout_laws.specs.TermLaws.{ValueFits, NameOk}
 use Rattle.layout_laws.specs.Parse.{parts}
-use Rattle.layout_laws.specs.ParseHeads.{head-literal}
-use Rattle.layout_laws.specs.Arity.{arity, head-wants}
+use Rattle.layout_laws.proofs.ParseHeads.{head-literal}
+use Rattle.layout_laws.specs.Arity.{arity}
+use Rattle.layout_laws.proofs.Arity.{head-wants}
 use Rattle.showing.specs.TextOfWords.{word_in, tagged_in, name_in, open_in, places_in, series_in, owner_in, ref_in, leaf_in, shown, TextOfWords·all}
 use Rattle.showing.specs.Spelling.{Spells, spelt, unspelt}
 use Rattle.showing.specs.Says.{Says, showing, plainly, naming, says-method}

@@ -8,7 +8,7 @@ use Rattle.atlite_laws.specs.Facts.{and₂}
 use Rattle.layout.specs.Numbers.{no_name, tagged_limit}
 use Rattle.layout_laws.specs.Parse.{method_at}
 use Rattle.layout_laws.specs.ParseWords.{Holding, MethodIs, method-word}
-use Rattle.layout_laws.specs.Signatures.{header-signed}
+use Rattle.layout_laws.proofs.Signatures.{header-signed}
 use Rattle.layout_laws.specs.LastThree.{kept, fresh, noted, fresh-first, fresh-second, fresh-third, fresh-yes, room, kept_fresh, kept-noted}
 use Rattle.term_words.specs.Ends.{sign, Met}
 

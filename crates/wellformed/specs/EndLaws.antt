@@ -9,7 +9,8 @@ use Rattle.std.proofs.Math.ListN.{get_or-eq_default}
 use Rattle.atlite.specs.Term.{Term, Terms, nil, Inits, no_field, Methods, no_method}
 use Rattle.decoding.specs.Kinds.{Kinds}
 use Rattle.layout_laws.specs.Parse.{Got, none, got, on_got, pair, behind, head_of, head_in, head_at, field_at, method_at, terms_by, inits_by, methods_by, formed, parse_terms, parse_inits, parse_methods}
-use Rattle.layout_laws.specs.ParseLaws.{parse, parse-step}
+use Rattle.layout_laws.specs.ParseLaws.{parse}
+use Rattle.layout_laws.proofs.ParseLaws.{parse-step}
 use Rattle.term_words.specs.Words.{within}
 use Rattle.term_words.specs.Ends.{end_of}
 

@@ -15,7 +15,8 @@ use Rattle.decoding.specs.ValidTest.{well_formed, well_formed_all}
 use Rattle.layout.specs.Numbers.{payload, tagged_limit, bodies_size}
 use Rattle.layout_laws.specs.Parse.{pair, head_at, field_at, method_at, terms_by, inits_by, methods_by, parse_terms, parse_inits, parse_methods}
 use Rattle.layout_laws.specs.ParseWords.{holding, field-word}
-use Rattle.layout_laws.specs.ParseLaws.{parse, parse-step}
+use Rattle.layout_laws.specs.ParseLaws.{parse}
+use Rattle.layout_laws.proofs.ParseLaws.{parse-step}
 use Rattle.layout_laws.specs.LastThree.{noted}
 use Rattle.checks.specs.Bound.{Kept}
 use Rattle.term_words.specs.Ends.{end_of, Scope, bound, Met, field_head, sign, FieldHeader, method_head, MethodHeader, fields_well, methods_well, terms_end, Leaf, Closed, Operands, TermEnds, Left, FieldsEnd, MethodsEnd, FormEnds}

@@ -15,11 +15,12 @@ use Rattle.decoding.specs.ValidTest.{held, well_formed, well_formed_inits, well_
 use Rattle.layout.specs.Numbers.{payload, name_limit, digit_limit, bodies_size}
 use Rattle.layout.specs.Terms.{count_inits, count_methods}
 use Rattle.layout_laws.specs.Parse.{parts, formed, parse_inits, parse_methods}
-use Rattle.layout_laws.specs.ParseSound.{inits-sound, methods-sound}
+use Rattle.layout_laws.proofs.ParseSound.{inits-sound, methods-sound}
 use Rattle.layout_laws.specs.ParseLaws.{parse}
 use Rattle.checks.specs.Bound.{Swapped, Kept}
 use Rattle.layout_laws.specs.Fitting.{each_all, count-inits, count-methods}
-use Rattle.layout_laws.specs.Signatures.{signed, Below, signed-distinct}
+use Rattle.layout_laws.specs.Signatures.{signed, Below}
+use Rattle.layout_laws.proofs.Signatures.{signed-distinct}
 use Rattle.layout_laws.specs.LastThree.{distinct_from, from-none}
 use Rattle.term_words.specs.Kinds.{allowed}
 use Rattle.term_words.specs.Words.{holds}

@@ -7,8 +7,8 @@ use Rattle.atlite.specs.Valid.{operable}
 use Rattle.decoding.specs.ValidTest.{well_formed, well_formed_all}
 use Rattle.layout.specs.Numbers.{payload}
 use Rattle.layout_laws.specs.Parse.{Got, none, got, pair, Head, leaf, unary, binary, many, only, head_in, formed, parse_terms}
-use Rattle.layout_laws.specs.ParseSound.{terms-sound}
-use Rattle.layout_laws.specs.ParseHeads.{head-kind}
+use Rattle.layout_laws.proofs.ParseSound.{terms-sound}
+use Rattle.layout_laws.proofs.ParseHeads.{head-kind}
 use Rattle.layout_laws.specs.ParseLaws.{parse}
 use Rattle.term_words.specs.Ends.{end_of, terms_end, word_end}
 use Rattle.wellformed.specs.EndLaws.{ends_on, ends-on-none, ends-pair-none}

@@ -8,8 +8,8 @@ pub atlite_list_spec : {M : Type 1} → statement M
 atlite_list_spec =
     tie.close
     (tie.spec
-    (λ c κs. search rules)  -- list-requires
+    (λ c κs. search rules)  -- list-answer-requires
     (λ c κs. search rules)  -- listed-requires
-    (λ c. search rules)  -- same-length
+    (λ c. search rules)  -- shape_of-text
     (λ c. search laws)  -- returns
     )

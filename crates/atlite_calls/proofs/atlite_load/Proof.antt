@@ -8,8 +8,8 @@ pub atlite_load_spec : {M : Type 1} → statement M
 atlite_load_spec =
     tie.close
     (tie.spec
-    (λ c κs. search rules)  -- load-requires
+    (λ c κs. search rules)  -- load-answer-requires
     (λ c κs. search rules)  -- loaded-requires
-    (λ c. search rules)  -- same-length
+    (λ c. search rules)  -- shape_of-state
     (λ c. search laws)  -- returns
     )

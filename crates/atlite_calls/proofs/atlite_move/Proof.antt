@@ -8,8 +8,8 @@ pub atlite_move_spec : {M : Type 1} → statement M
 atlite_move_spec =
     tie.close
     (tie.spec
-    (λ c κs. search rules)  -- move-actor-requires
+    (λ c κs. search rules)  -- move_actor-answer-requires
     (λ c κs. search rules)  -- moved-requires
-    (λ c. search rules)  -- same-length
+    (λ c. search rules)  -- shape_of-state
     (λ c. (search laws, (search laws, (search laws, search laws))))  -- returns
     )

@@ -8,8 +8,8 @@ pub atlite_print_spec : {M : Type 1} → statement M
 atlite_print_spec =
     tie.close
     (tie.spec
-    (λ c κs. search rules)  -- print-requires
+    (λ c κs. search rules)  -- print-answer-requires
     (λ c κs. search rules)  -- printed-requires
-    (λ c. search rules)  -- same-length
+    (λ c. search rules)  -- shape_of-text
     (λ c. search laws)  -- returns
     )

@@ -8,8 +8,8 @@ pub atlite_read_spec : {M : Type 1} → statement M
 atlite_read_spec =
     tie.close
     (tie.spec
-    (λ c κs. search rules)  -- read-requires
+    (λ c κs. search rules)  -- read-answer-requires
     (λ c κs. search rules)  -- tabled-requires
-    (λ c. search rules)  -- same-length
+    (λ c. search rules)  -- shape_of-table
     (λ c. search laws)  -- returns
     )

@@ -8,8 +8,8 @@ pub atlite_run_spec : {M : Type 1} → statement M
 atlite_run_spec =
     tie.close
     (tie.spec
-    (λ c κs. search rules)  -- run-requires
+    (λ c κs. search rules)  -- run-answer-requires
     (λ c κs. search rules)  -- ran-requires
-    (λ c. search rules)  -- same-length
+    (λ c. search rules)  -- shape_of-state
     (λ c. (search laws, (search laws, (search laws, search laws))))  -- returns
     )

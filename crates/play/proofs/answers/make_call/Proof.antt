@@ -7,10 +7,10 @@ pub make_call_spec : {M : Type 1} → statement M
 make_call_spec =
     tie.close
     (tie.spec
-    (λ c κs. search answering)  -- move-actor-requires
-    (λ c κs. search answering)  -- put-space-requires
-    (λ c κs. search answering)  -- put-answer-requires
-    (λ c. search answering)  -- same-length
-    (λ c. search answering)  -- same-length-2
+    (λ c κs. search answering)  -- move_actor-answer-requires
+    (λ c κs. search answering)  -- put_space-p-requires
+    (λ c κs. search answering)  -- put_answer-requires
+    (λ c. search answering)  -- shape_of-state
+    (λ c. search answering)  -- shape_of-text
     (λ c. search answering)  -- returns
     )

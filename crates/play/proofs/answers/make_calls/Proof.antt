@@ -5,26 +5,26 @@ use Rattle.play.specs.Calls.{Calling, laws}
 use Rattle.play.proofs.answers.make_calls.Statement.{statement}
 use Rattle.play.proofs.answers.make_calls.Tie as tie
 
-abbrev invariant-loop : tie.invariant-loop
-invariant-loop state₀ entries text₀ k₀ i₀ state text k i = Calling state₀ entries i state k text
+abbrev invariant-loop-i : tie.invariant-loop-i
+invariant-loop-i state₀ entries text₀ k₀ i₀ state text k i = Calling state₀ entries i state k text
 
-abbrev decreases-loop : tie.decreases-loop
-decreases-loop state₀ entries text₀ k₀ i₀ state text k i = length entries - i
+abbrev decreases-loop-i : tie.decreases-loop-i
+decreases-loop-i state₀ entries text₀ k₀ i₀ state text k i = length entries - i
 
 pub make_calls_spec : {M : Type 1} → statement M
 make_calls_spec =
     tie.close
     (tie.spec
-    invariant-loop
-    decreases-loop
-    (λ c. search laws)  -- loop-holds
-    (λ c. search laws)  -- shared-slice-read-make-call
-    (λ c κs. search laws)  -- make-call-requires
-    (λ c. search laws)  -- add-i
-    (λ c. search laws)  -- loop-less
-    (λ c. search laws)  -- loop-again
+    invariant-loop-i
+    decreases-loop-i
+    (λ c. search laws)  -- loop-i-init
+    (λ c. search laws)  -- bounds-entries-i
+    (λ c κs. search laws)  -- make_call-k-requires
+    (λ c. search laws)  -- overflow_add-i
+    (λ c. search laws)  -- loop-i-smaller
+    (λ c. search laws)  -- loop-i-preserved
     (λ c κs. search laws)  -- put-requires
-    (λ c. search laws)  -- same-length
-    (λ c. search laws)  -- same-length-2
+    (λ c. search laws)  -- shape_of-state
+    (λ c. search laws)  -- shape_of-text
     (λ c. search laws)  -- returns
     )

@@ -7,13 +7,13 @@ pub replay_input_spec : {M : Type 1} → statement M
 replay_input_spec =
     tie.close
     (tie.spec
-    (λ c κs. search laws)  -- first-line-requires
-    (λ c. search laws)  -- enum-known-first
-    (λ c κs. search laws)  -- replay-parts-requires
-    (λ c. search laws)  -- enum-told
-    (λ c κs. search laws)  -- bad-token-requires
-    (λ c. search laws)  -- same-length
-    (λ c. search laws)  -- returns
-    (λ c. search laws)  -- same-length-2
-    (λ c. search laws)  -- returns-2
+    (λ c κs. search laws)  -- first_line-first-requires
+    (λ c. search laws)  -- enum_known-first
+    (λ c κs. search laws)  -- replay_parts-requires
+    (λ c. search laws)  -- enum_told-1
+    (λ c κs. search laws)  -- bad_token-requires
+    (λ c. search laws)  -- shape_of-out-in-Ends
+    (λ c. search laws)  -- returns-in-Ends
+    (λ c. search laws)  -- shape_of-out-in-Unended
+    (λ c. search laws)  -- returns-in-Unended
     )

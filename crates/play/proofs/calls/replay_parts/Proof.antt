@@ -7,21 +7,21 @@ pub replay_parts_spec : {M : Type 1} → statement M
 replay_parts_spec =
     tie.close
     (tie.spec
-    (λ c. search laws)  -- slice-aggregate-read-calls
-    (λ c. search laws)  -- slice-aggregate-read-calls-2
-    (λ c κs. search laws)  -- read-calls-requires
-    (λ c. search laws)  -- add-script
-    (λ c. search laws)  -- enum-known-read
-    (λ c. search laws)  -- sub-replay-script
-    (λ c. search laws)  -- part-replay-script-start
-    (λ c. search laws)  -- part-replay-script-end
-    (λ c. search laws)  -- array-share-prefix-entries
-    (λ c. search laws)  -- slice-aggregate-replay-script
-    (λ c κs. search laws)  -- replay-script-requires
-    (λ c. search laws)  -- enum-told
-    (λ c κs. search laws)  -- bad-token-requires
-    (λ c. search laws)  -- same-length
-    (λ c. search laws)  -- returns
-    (λ c. search laws)  -- same-length-2
-    (λ c. search laws)  -- returns-2
+    (λ c. search laws)  -- slice_bounds-read_calls-end
+    (λ c. search laws)  -- slice_bounds-read_calls-end-2
+    (λ c κs. search laws)  -- read_calls-read-requires
+    (λ c. search laws)  -- overflow_add-script
+    (λ c. search laws)  -- enum_known-read
+    (λ c. search laws)  -- slice_bounds-replay_script-count
+    (λ c. search laws)  -- slice_bounds-replay_script-start
+    (λ c. search laws)  -- slice_bounds-replay_script-end
+    (λ c. search laws)  -- slice_bounds-entries-end
+    (λ c. search laws)  -- slice_bounds-replay_script-end-in-Read
+    (λ c κs. search laws)  -- replay_script-requires
+    (λ c. search laws)  -- enum_told-1
+    (λ c κs. search laws)  -- bad_token-requires
+    (λ c. search laws)  -- shape_of-out-in-Read
+    (λ c. search laws)  -- returns-in-Read
+    (λ c. search laws)  -- shape_of-out-in-Bad
+    (λ c. search laws)  -- returns-in-Bad
     )

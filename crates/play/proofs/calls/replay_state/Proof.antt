@@ -7,12 +7,12 @@ pub replay_state_spec : {M : Type 1} → statement M
 replay_state_spec =
     tie.close
     (tie.spec
-    (λ c. search laws)  -- slice-aggregate-make-calls
-    (λ c κs. search laws)  -- make-calls-requires
-    (λ c. search laws)  -- array-share-prefix-text
-    (λ c. search laws)  -- slice-aggregate-show-state
-    (λ c κs. search laws)  -- show-state-requires
-    (λ c. search laws)  -- same-length
-    (λ c. search laws)  -- same-length-2
+    (λ c. search laws)  -- slice_bounds-make_calls-end
+    (λ c κs. search laws)  -- make_calls-k-requires
+    (λ c. search laws)  -- slice_bounds-text-end
+    (λ c. search laws)  -- slice_bounds-show_state-end
+    (λ c κs. search laws)  -- show_state-requires
+    (λ c. search laws)  -- shape_of-state
+    (λ c. search laws)  -- shape_of-out
     (λ c. search laws)  -- returns
     )

@@ -7,21 +7,21 @@ pub play_parts_spec : {M : Type 1} → statement M
 play_parts_spec =
     tie.close
     (tie.spec
-    (λ c. search laws)  -- slice-aggregate-read-schedule
-    (λ c. search laws)  -- slice-aggregate-read-schedule-2
-    (λ c κs. search laws)  -- read-schedule-requires
-    (λ c. search laws)  -- add-script
-    (λ c. search laws)  -- enum-known-read
-    (λ c. search laws)  -- sub-play-script
-    (λ c. search laws)  -- part-play-script-start
-    (λ c. search laws)  -- part-play-script-end
-    (λ c. search laws)  -- array-share-prefix-entries
-    (λ c. search laws)  -- slice-aggregate-play-script
-    (λ c κs. search laws)  -- play-script-requires
-    (λ c. search laws)  -- enum-told
+    (λ c. search laws)  -- slice_bounds-read_schedule-end
+    (λ c. search laws)  -- slice_bounds-read_schedule-end-2
+    (λ c κs. search laws)  -- read_schedule-read-requires
+    (λ c. search laws)  -- overflow_add-script
+    (λ c. search laws)  -- enum_known-read
+    (λ c. search laws)  -- slice_bounds-play_script-count
+    (λ c. search laws)  -- slice_bounds-play_script-start
+    (λ c. search laws)  -- slice_bounds-play_script-end
+    (λ c. search laws)  -- slice_bounds-entries-end
+    (λ c. search laws)  -- slice_bounds-play_script-end-in-Read
+    (λ c κs. search laws)  -- play_script-requires
+    (λ c. search laws)  -- enum_told-1
     (λ c κs. search laws)  -- refuse-requires
-    (λ c. search laws)  -- same-length
-    (λ c. search laws)  -- returns
-    (λ c. search laws)  -- same-length-2
-    (λ c. search laws)  -- returns-2
+    (λ c. search laws)  -- shape_of-out-in-Read
+    (λ c. search laws)  -- returns-in-Read
+    (λ c. search laws)  -- shape_of-out-in-Bad
+    (λ c. search laws)  -- returns-in-Bad
     )

@@ -7,15 +7,15 @@ pub play_script_spec : {M : Type 1} → statement M
 play_script_spec =
     tie.close
     (tie.spec
-    (λ c. search laws)  -- slice-aggregate-start
-    (λ c κs. search laws)  -- start-requires
-    (λ c. search laws)  -- enum-told
-    (λ c. search laws)  -- slice-aggregate-play-state
-    (λ c κs. search laws)  -- play-state-requires
-    (λ c. search laws)  -- enum-known-started
+    (λ c. search laws)  -- slice_bounds-start-end
+    (λ c κs. search laws)  -- start-started-requires
+    (λ c. search laws)  -- enum_told-1
+    (λ c. search laws)  -- slice_bounds-play_state-end
+    (λ c κs. search laws)  -- play_state-requires
+    (λ c. search laws)  -- enum_known-started
     (λ c κs. search laws)  -- refuse-requires
-    (λ c. search laws)  -- same-length
-    (λ c. search laws)  -- returns
-    (λ c. search laws)  -- same-length-2
-    (λ c. search laws)  -- returns-2
+    (λ c. search laws)  -- shape_of-out-in-Done
+    (λ c. search laws)  -- returns-in-Done
+    (λ c. search laws)  -- shape_of-out-in-Refused
+    (λ c. search laws)  -- returns-in-Refused
     )

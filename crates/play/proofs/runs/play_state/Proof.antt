@@ -8,9 +8,8 @@ play_state_spec =
     tie.close
     (tie.spec
     (λ c κs. search laws)  -- run-requires
-    (λ c. search laws)  -- slice-aggregate-show-state
-    (λ c κs. search laws)  -- show-state-requires
-    (λ c. search laws)  -- same-length
-    (λ c. search laws)  -- same-length-2
+    (λ c κs. search laws)  -- show_state-requires
+    (λ c. search laws)  -- shape_of-state
+    (λ c. search laws)  -- shape_of-out
     (λ c. search laws)  -- returns
     )

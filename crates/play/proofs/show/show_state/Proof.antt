@@ -7,17 +7,17 @@ pub show_state_spec : {M : Type 1} → statement M
 show_state_spec =
     tie.close
     (tie.spec
-    (λ c. search laws)  -- add-e
-    (λ c. search laws)  -- sub-list
-    (λ c. search laws)  -- part-list-start
-    (λ c. search laws)  -- part-list-end
-    (λ c κs. search laws)  -- list-requires
-    (λ c. search laws)  -- enum-known-listed
-    (λ c κs. search laws)  -- put-head-requires
-    (λ c. search laws)  -- enum-known-listed-2
+    (λ c. search laws)  -- overflow_add-e
+    (λ c. search laws)  -- slice_bounds-list-count
+    (λ c. search laws)  -- slice_bounds-list-start
+    (λ c. search laws)  -- slice_bounds-list-end
+    (λ c κs. search laws)  -- list-listed-requires
+    (λ c. search laws)  -- enum_known-listed
+    (λ c κs. search laws)  -- put_head-requires
+    (λ c. search laws)  -- enum_known-listed-in-Refused-1
     (λ c κs. search laws)  -- refuse-requires
-    (λ c. search laws)  -- same-length
-    (λ c. search laws)  -- returns
-    (λ c. search laws)  -- same-length-2
-    (λ c. search laws)  -- returns-2
+    (λ c. search laws)  -- shape_of-out-in-Bytes
+    (λ c. search laws)  -- returns-in-Bytes
+    (λ c. search laws)  -- shape_of-out-in-Refused
+    (λ c. search laws)  -- returns-in-Refused
     )

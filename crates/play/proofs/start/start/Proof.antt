@@ -7,13 +7,13 @@ pub start_spec : {M : Type 1} → statement M
 start_spec =
     tie.close
     (tie.spec
-    (λ c. search laws)  -- slice-aggregate-read
-    (λ c κs. search laws)  -- read-requires
-    (λ c. search laws)  -- enum-told
-    (λ c. search laws)  -- slice-aggregate-load
+    (λ c. search laws)  -- slice_bounds-read-end
+    (λ c κs. search laws)  -- read-tabled-requires
+    (λ c. search laws)  -- enum_told-1
+    (λ c. search laws)  -- slice_bounds-load-end
     (λ c κs. search laws)  -- load-requires
-    (λ c. search laws)  -- enum-known-tabled
-    (λ c. search laws)  -- same-length
-    (λ c. search laws)  -- returns
-    (λ c. search laws)  -- returns-2
+    (λ c. search laws)  -- enum_known-tabled
+    (λ c. search laws)  -- shape_of-state
+    (λ c. search laws)  -- returns-in-Done
+    (λ c. search laws)  -- returns-in-Refused
     )

@@ -13,7 +13,7 @@ use Rattle.layout.specs.Terms.{count_inits, count_methods, encode_value, field_h
 use Rattle.layout_laws.specs.TermLaws.{Fits, FitsAll, FitsInits, FitsMethods}
 use Rattle.layout_laws.specs.Parse.{Got, got, on_got, pair, behind, Head, leaf, unary, binary, many, parts, head_at, field_at, method_at, terms_by, inits_by, methods_by, formed, parse_term, parse_terms, parse_inits, parse_methods}
 use Rattle.layout_laws.specs.ParseWords.{field-read, method-read}
-use Rattle.layout_laws.specs.ParseHeads.{head-value, head-var, head-op, head-let, head-future, head-literal}
+use Rattle.layout_laws.proofs.ParseHeads.{head-value, head-var, head-op, head-let, head-future, head-literal}
 use Rattle.layout_laws.specs.Spans.{drop_past, drop-next, drop-first}
 
 -- a reader that gets a wherever the words xs stand, by fuel and position

@@ -20,8 +20,8 @@ use Rattle.layout.specs.Layout.{value_words, encode_message}
 use Rattle.layout_laws.specs.Slots.{length-values, MessageFits, message-length}
 use Rattle.layout_laws.specs.Parse.{Got, none, got, sure, value_at, name_of, before, values_at, zeros_at, parse_message}
 use Rattle.layout_laws.specs.ParseWords.{Holding, ValueWord, value-word, value_read, NameWord, name-word, name-read, word-node}
-use Rattle.layout_laws.specs.ParseHeads.{asked-sum}
-use Rattle.layout_laws.specs.ParseSound.{Ended, ended, ended-behind}
+use Rattle.layout_laws.proofs.ParseHeads.{asked-sum}
+use Rattle.layout_laws.proofs.ParseSound.{Ended, ended, ended-behind}
 use Rattle.layout_laws.specs.Spans.{Spans, drop_past, drop-next, drop-first, span_none, span-end, span-word, span-join}
 
 -- ---- the arguments and the empty words

@@ -14,7 +14,8 @@ use Rattle.layout_laws.specs.TermLaws.{Fits, FitsAll, FitsInits, FitsMethods}
 use Rattle.decoding.specs.Kinds.{Kinds}
 use Rattle.layout_laws.specs.Parse.{Got, none, got, on_got, pair, behind, Head, no_head, leaf, unary, binary, many, parts, head_of, head_in, head_at, field_at, method_at, terms_by, inits_by, methods_by, formed, parse_term, parse_terms, parse_inits, parse_methods}
 use Rattle.layout_laws.specs.ParseWords.{Holding, field-word, MethodIs, method-word}
-use Rattle.layout_laws.specs.ParseHeads.{Is, Reads, head-reads}
+use Rattle.layout_laws.specs.ParseHeads.{Is, Reads}
+use Rattle.layout_laws.proofs.ParseHeads.{head-reads}
 use Rattle.layout_laws.specs.Spans.{Spans, span_none, span-word, span-join}
 
 -- ---- answers
