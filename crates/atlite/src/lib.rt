@@ -1,5 +1,6 @@
 // The language AT-LITE. The definitions are in specs/; here are the types of the answers that the engine's calls give, and of the
 // numbers that name actors and entities. specs/Answers.antt says which answer of document 01 each case is.
+#![tactic(auto)]
 
 // The number of an actor, of an entity that an actor made (series m) and of a copy that arrived (series c): three counts that must
 // not be mixed up.

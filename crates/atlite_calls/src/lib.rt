@@ -3,6 +3,8 @@
 // Each function returns a number: 0 where the call was done, else document 01's number of the cause. Lengths, counts and the kind of a
 // move go to places that the caller lends. None asks anything of the words and bytes that it is lent. Crate `call_numbers` has the number
 // of each answer; here each call is made and its answer handed over.
+#![tactic(auto)]
+
 ghost use Rattle.std.specs.Prelude.{◌≡◌};
 ghost use Rattle.promises.specs.Meaning.{read_call, print_call, load_call, move_call, run_call, list_call};
 ghost use Rattle.promises.specs.CallNumbers.{cause, place, itself, kind_of, other_of, moves_of, refusals_of};

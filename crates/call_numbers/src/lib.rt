@@ -3,6 +3,8 @@
 // Each returns 0 where the call was done, else document 01's number of the cause. Lengths, counts and the kind of a move go to places that
 // the caller lends, and where the call was refused these keep what they held. Nothing here stands on the engine: what a number says is
 // settled by the answer alone, so that a wrong number is refused without it.
+#![tactic(auto)]
+
 ghost use Rattle.std.specs.Prelude.{◌≡◌};
 ghost use Rattle.atlite.specs.Answers.{move_answer, run_answer, read_answer, load_answer, print_answer, list_answer};
 ghost use Rattle.promises.specs.CallNumbers.{cause, place, itself, kind_of, other_of, moves_of, refusals_of};

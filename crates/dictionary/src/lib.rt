@@ -1,5 +1,7 @@
 // Whether words are the dictionary of a state or of a table: three words an entry, each entry a word of a script's own, and none of them twice.
 // An entry is put into bytes, so that the reader's own test of words serves here too.
+#![tactic(auto)]
+
 ghost use Rattle.std.specs.Prelude.{◌≡◌, ◌+◌, ◌*◌, ◌≤◌, length};
 ghost use Rattle.std.proofs.lemmas.List.Edits.{sets};
 ghost use Rattle.atlite.specs.Base.{same_bytes};

@@ -2,6 +2,8 @@
 //
 // A line is a schedule for the one program and calls for the other; read, either is actor numbers. Nothing here stands on the engine: a line
 // is judged before any of the script behind it is looked at.
+#![tactic(auto)]
+
 ghost use Rattle.input_line.specs.Lines.{LineOf};
 
 mod digits;

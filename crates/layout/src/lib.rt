@@ -1,5 +1,6 @@
 // How tables and states stand in words: definitions, all of them to be believed, in specs/. The code here is the numbers of the layout,
 // under the names that specs/Numbers.antt has them by.
+#![tactic(auto)]
 
 // Where a word's kind stands, and the greatest number below it; headers begin at the last.
 pub const PAYLOAD: u32 = 16777216;

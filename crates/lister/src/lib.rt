@@ -1,5 +1,7 @@
 // The listing of a state from its words. The same code measures the listing, into no text, and writes it. Words that are no
 // state are listed as some text too, so that nothing here fails.
+#![tactic(auto)]
+
 mod messages;
 
 ghost use Rattle.std.specs.Prelude.{◌≡◌, [], ◌∷◌, ◌+◌, ◌*◌, ◌≤◌, ◌<◌, length, drop};

@@ -1,4 +1,6 @@
 // From the text of a script to scratch words: a recursive descent that follows the grammar shape by shape.
+#![tactic(auto)]
+
 ghost use Rattle.std.specs.Prelude.{◌≤◌, length};
 ghost use Rattle.atlite.specs.Lexicon.{dictionary};
 ghost use Rattle.scan.specs.WordNumbers.{Holds};

@@ -4,6 +4,8 @@
 // the engine's calls, each of which can refuse; a refusal is written as its number. The two programs differ in what the line says and in what
 // is done with the state: a run, or calls one after another with an answer for each. Crate `input_line` reads the line, and crate `transcript` has
 // what is written besides the listing; here is what calls the engine.
+#![tactic(auto)]
+
 mod answers;
 mod calls;
 mod runs;

@@ -1,4 +1,6 @@
 // The words of a text: where a run of letters and digits ends, which reserved word it is, its number, and the text's dictionary.
+#![tactic(auto)]
+
 ghost use Rattle.std.specs.Prelude.{◌≡◌, ◌≤◌, ◌<◌, true, false, length};
 ghost use Rattle.std.proofs.Math.Seq.{slice};
 ghost use Rattle.atlite.specs.Base.{bytes, same_bytes};

@@ -3,6 +3,8 @@
 // The reader works in passes over a scratch form with room for any text of 4,096 bytes: dictionary, grammar (2), bound variables (3), lists
 // (4), limits (5), table. The table is written last, when nothing can refuse the text any more. The printer makes the text that the words
 // would have, reads it, and compares: words are a table exactly if they come back.
+#![tactic(auto)]
+
 mod printing;
 mod reader;
 

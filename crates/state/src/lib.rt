@@ -2,6 +2,8 @@
 //
 // The test looks at what is cheap first: counts, zeros and the dictionary; then it gathers the kinds of all entities in one table, and
 // judges each actor's part by that table alone.
+#![tactic(auto)]
+
 ghost use Rattle.std.specs.Prelude.{◌≡◌, true, ◌+◌, ◌*◌, ◌≤◌, length, drop};
 ghost use Rattle.atlite.specs.Base.{is_done};
 ghost use Rattle.atlite.specs.Answers.{list_answer};

@@ -1,6 +1,8 @@
 // What the programs `loops` and `replay` write besides a listing: the line of a refusal, that of a bad token, and the answers of calls.
 //
 // Nothing here stands on the engine: each function puts bytes into a text for an answer or a cause that it is given.
+#![tactic(auto)]
+
 ghost use Rattle.std.specs.Prelude.{◌+◌, ◌≤◌, ◌≡◌, length};
 ghost use Rattle.atlite.specs.Base.{refused};
 ghost use Rattle.atlite.specs.Program.{shown};

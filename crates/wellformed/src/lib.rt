@@ -2,6 +2,8 @@
 //
 // A term is read forward, word by word, and every function answers with the position behind what it read, or with 4096, where no
 // region has a word. What is read from there on ends there too, so that nothing is tested between two parts of a term.
+#![tactic(auto)]
+
 ghost use Rattle.std.specs.Prelude.{◌≡◌, [], ◌≤◌, ◌%◌, length};
 ghost use Rattle.decoding.specs.ValidTest.{well_formed};
 ghost use Rattle.layout.specs.Numbers.{payload, bodies_size};

@@ -1,4 +1,6 @@
 // Runs of words and bytes, compared and copied; `wide` has the numbers of the scratch form of a script.
+#![tactic(auto)]
+
 ghost use Rattle.std.specs.Prelude.{◌≡◌, ◌+◌, ◌≤◌, eqb, length, take};
 ghost use Rattle.std.proofs.lemmas.List.Edits.{sets};
 ghost use Rattle.layout.specs.Pack.{zeros};
