@@ -1,6 +1,12 @@
 // Input read to its end, where a read that fails is not the end; `digits` reads numbers in the records of test programs.
+#![tactic(auto)]
+
 ghost use Rattle.std.specs.Prelude.{◌+◌, ◌≤◌, length};
 ghost use Rattle.input.specs.Within.{Within};
+
+use std::fs;
+use std::io::Read;
+use std::rt::Files;
 
 pub mod digits;
 
@@ -16,35 +22,34 @@ pub enum Input {
 }
 
 // What one read gave: so many bytes, none at the end of the input; or a failure.
-#[derive(Drop)]
+#[derive(Clone, Copy)]
 struct Got {
     n: usize,
     failed: bool,
 }
 
 // One read to the bytes of `buffer` from `at` on.
-fn get(fd: i32, buffer: &mut [u8], at: usize) -> Got
+fn get<R: Read>(reader: &mut R, buffer: &mut [u8], at: usize) -> Got
     requires { at ≤ length buffer.old }
     ensures { at + result.n ≤ length buffer.old }
 {
-    let rest = &mut buffer[at..];
-    let got = libc::read(fd, rest);
-    Got {
-        n: io::count(got, rest),
-        failed: got < 0,
+    match reader.read(&mut buffer[at..]) {
+        Ok(n) => Got { n, failed: false },
+        Err(_) => Got { n: 0, failed: true },
     }
 }
 
 // Reads to the end of the input, or until `buffer` is full.
 //
 // The count is within the buffer. That the bytes are the input's is not said, since no contract speaks of what is read.
-pub fn read_all(fd: i32, buffer: &mut [u8]) -> Input
+#[tactic(auto, using(crate::specs::Within::laws))]
+pub fn read_all<R: Read>(reader: &mut R, buffer: &mut [u8]) -> Input
     ensures { Within result (length buffer.new) }
 {
     let mut at = 0;
     let mut left = FAILURES;
     while at < buffer.len() {
-        let got = get(fd, buffer, at);
+        let got = get(reader, buffer, at);
         if got.failed {
             if left == 0 {
                 return Input::Unread;
@@ -60,18 +65,18 @@ pub fn read_all(fd: i32, buffer: &mut [u8]) -> Input
     Input::Bytes(at)
 }
 
-// Reads the file `name` to its end, or until `buffer` is full. One that cannot be opened is unread.
-pub fn read_file(name: &[u8], buffer: &mut [u8]) -> Input
+// Reads the file `name` to its end, or until `buffer` is full. One that cannot be opened is unread, and a line on standard error says why.
+#[tactic(auto, using(crate::specs::Within::laws))]
+pub fn read_file<R: Files + Eprint>(rt: &R, name: &str, buffer: &mut [u8]) -> Input
     ensures { Within result (length buffer.new) }
 {
-    let fd = os::open_read(name);
-    if fd < 0 {
-        os::fail(name);
-        return Input::Unread;
+    match fs::open(rt, name) {
+        Ok(mut file) => read_all(&mut file, buffer),
+        Err(e) => {
+            let _ = eprintln!(rt; "{name}: {e}");
+            Input::Unread
+        }
     }
-    let r = read_all(fd, buffer);
-    libc::close(fd);
-    r
 }
 
 // The line that a program writes, and nothing else, where its input was not read.
