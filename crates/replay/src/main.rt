@@ -4,22 +4,23 @@
 //
 // The longest input that is not refused has 8,193 bytes. One byte more is read and no further: what is written for the whole input is what is
 // written for its first 8,194 bytes (`replay-take` of crate `play`).
+#![tactic(auto)]
 use input::Input;
+use std::io;
 
 // Replays an input, and writes what comes of it.
-fn answer(bytes: &[u8]) {
+fn answer(rt: &impl Print, bytes: &[u8]) -> io::Result<()> {
     let mut out = [0u8; play::ROOM];
     let k = play::replay(bytes, &mut out);
-    io::write_all(1, &out[..k]);
+    rt.write_all(&out[..k])
 }
 
-fn main() {
+#[tactic(auto, using(input::specs::Within::counted))]
+fn main(rt: HostRuntime) -> io::Result<()> {
     let mut bytes = [0u8; play::INPUT];
-    let r = input::read_all(0, &mut bytes);
+    let r = input::read_all(&mut rt.stdin(), &mut bytes);
     match r {
-        Input::Bytes(n) => answer(&bytes[..n]),
-        Input::Unread => {
-            io::write_all(1, &input::UNREAD);
-        }
+        Input::Bytes(n) => answer(&rt, &bytes[..n]),
+        Input::Unread => rt.write_all(&input::UNREAD),
     }
 }
