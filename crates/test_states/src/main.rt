@@ -2,10 +2,13 @@
 //
 // A record of the file `states` has 19 bytes: a letter and a space, five digits, a space and ten digits, the end of the line. `w` sets the
 // word of the first number to the second, `l` lists the words, and `n` has a name for its digits, which is printed.
+#![tactic(auto)]
+
 ghost use Rattle.std.specs.Prelude.{◌+◌, ◌≤◌, ◌≡◌, length};
 
 use atlite::Listed;
 use input::{Input, digits};
+use std::io;
 
 // The bytes of a record.
 const RECORD: usize = 19;
@@ -36,53 +39,51 @@ fn within(n: usize, text: &[u8]) -> usize
 }
 
 // Lists the words, or says what refuses them. No cause of a listing has two digits.
-fn show(words: &[u32]) {
-    let mut text = io::large_buffer();
+fn show(rt: &impl Print, words: &[u32]) -> io::Result<()> {
+    let mut text = [0u8; 65536];
     let l = state::list(words, &mut text);
     match l {
         Listed::Bytes(n) => {
             let k = within(n, &text);
-            io::write_all(1, &text[..k]);
+            rt.write_all(&text[..k])
         }
         Listed::Refused(n) => {
-            let digit = b'0' + n % 10;
-            io::write_all(1, b"(refused ");
-            io::write_all(1, &[digit]);
-            io::write_all(1, b")\n");
+            let digit = n % 10;
+            println!(rt; "(refused {digit})")
         }
     }
 }
 
 // Does what one record says.
-fn follow(entry: &[u8], words: &mut [u32])
+fn follow(rt: &impl Print, entry: &[u8], words: &mut [u32]) -> io::Result<()>
     requires { length entry.now ≡ 19 }
 {
     match entry[0] {
-        b'w' => set_word(entry, words),
-        b'l' => show(words),
-        _ => {
-            io::write_all(1, &entry[2..]);
+        b'w' => {
+            set_word(entry, words);
+            Ok(())
         }
+        b'l' => show(rt, words),
+        _ => rt.write_all(&entry[2..]),
     }
 }
 
 // Goes through the records.
-fn go_through(records: &[u8], words: &mut [u32]) {
+fn go_through(rt: &impl Print, records: &[u8], words: &mut [u32]) -> io::Result<()> {
     if records.len() < RECORD {
-        return;
+        return Ok(());
     }
-    follow(&records[..RECORD], words);
-    go_through(&records[RECORD..], words);
+    follow(rt, &records[..RECORD], words)?;
+    go_through(rt, &records[RECORD..], words)
 }
 
-fn main() {
-    let mut data = io::large_buffer();
+#[tactic(auto, using(input::specs::Within::counted))]
+fn main(rt: HostRuntime) -> io::Result<()> {
+    let mut data = [0u8; 65536];
     let mut words = [0u32; 16384];
-    let r = input::read_file(b"states", &mut data);
+    let r = input::read_file(&rt, "states", &mut data);
     match r {
-        Input::Bytes(n) => go_through(&data[..n], &mut words),
-        Input::Unread => {
-            io::write_all(1, &input::UNREAD);
-        }
+        Input::Bytes(n) => go_through(&rt, &data[..n], &mut words),
+        Input::Unread => rt.write_all(&input::UNREAD),
     }
 }

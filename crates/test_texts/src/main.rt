@@ -1,16 +1,19 @@
 // Reads every text of the file `texts`, prints each that is accepted, and counts those whose answer is the one stored with it.
 //
 // A record is the text's length in four digits, a space, the cause that refuses it or 0, the end of the line, and the text.
+#![tactic(auto)]
+
 ghost use Rattle.std.specs.Prelude.{◌≡◌, ◌+◌, ◌≤◌, length};
 
 use atlite::{Printed, Tabled};
 use input::{Input, digits};
+use std::io;
 
 // The bytes of a record before its text.
 const HEADER: usize = 7;
 
 // What was gone through: records, and those that agree.
-#[derive(Drop)]
+#[derive(Clone, Copy)]
 struct Tally {
     all: u64,
     agreed: u64,
@@ -34,7 +37,7 @@ fn starts(out: &[u8], text: &[u8]) -> bool {
 
 // Whether the table prints as `text`.
 fn prints(table: &[u32], text: &[u8]) -> bool {
-    let mut out = io::buffer();
+    let mut out = [0u8; 4096];
     let p = script::print(table, &mut out);
     match p {
         Printed::Bytes(n) => {
@@ -43,7 +46,7 @@ fn prints(table: &[u32], text: &[u8]) -> bool {
             }
             starts(&out, text)
         }
-        Printed::Refused(n) => false,
+        Printed::Refused(_) => false,
     }
 }
 
@@ -93,23 +96,20 @@ fn go_through(records: &[u8], t: Tally) -> Tally
 }
 
 // Says how many of the records agree.
-fn report(records: &[u8])
+fn report(rt: &impl Print, records: &[u8]) -> io::Result<()>
     requires { length records.now ≤ 65536 }
 {
     let t = go_through(records, Tally { all: 0, agreed: 0 });
-    io::print_decimal(1, t.agreed);
-    io::write_all(1, b" of ");
-    io::print_decimal(1, t.all);
-    io::write_all(1, b" texts agree\n");
+    let Tally { all, agreed } = t;
+    println!(rt; "{agreed} of {all} texts agree")
 }
 
-fn main() {
-    let mut data = io::large_buffer();
-    let r = input::read_file(b"texts", &mut data);
+#[tactic(auto, using(input::specs::Within::counted))]
+fn main(rt: HostRuntime) -> io::Result<()> {
+    let mut data = [0u8; 65536];
+    let r = input::read_file(&rt, "texts", &mut data);
     match r {
-        Input::Bytes(n) => report(&data[..n]),
-        Input::Unread => {
-            io::write_all(1, &input::UNREAD);
-        }
+        Input::Bytes(n) => report(&rt, &data[..n]),
+        Input::Unread => rt.write_all(&input::UNREAD),
     }
 }
