@@ -4,10 +4,14 @@
 // bytes: a letter and a space, five digits, a space and ten digits, the end of the line. `z` sets all words to 0, `w` sets the word of the
 // first number to the second, and `r` repeats the word before the first number as often as the second says; `e` and `f` do so in the words
 // that are expected alone. `m` has the actor in three digits, the answer in two and a name, and is the move.
-ghost use Rattle.std.specs.Prelude.{◌+◌, ◌≤◌, ◌≡◌, length};
+#![tactic(auto)]
+
+ghost use Rattle.std.specs.Prelude.{◌+◌, ◌≤◌, ◌≡◌, length, IfOk};
 
 use atlite::{ActorNo, Moved};
 use input::{Input, digits};
+use std::io;
+use std::rt::Files;
 
 // The bytes of a record.
 const RECORD: usize = 19;
@@ -16,7 +20,7 @@ const RECORD: usize = 19;
 const STATE: usize = 16384;
 
 // What was gone through: moves, and those that agree.
-#[derive(Drop)]
+#[derive(Clone, Copy)]
 struct Tally {
     all: u64,
     agreed: u64,
@@ -45,10 +49,8 @@ fn word_at(words: &[u32], i: usize) -> u32 {
 fn fill(words: &mut [u32], i: usize, n: usize, v: u64)
     requires { (i ≤ 99999) × (n ≤ 99999) }
 {
-    let mut k = 0;
-    while k < n {
+    for k in 0..n {
         set_word(words, i + k, v);
-        k += 1;
     }
 }
 
@@ -65,21 +67,17 @@ fn repeat(words: &mut [u32], i: usize, n: usize)
 
 // Makes the words of a state in `to` those of `from`.
 fn copy(from: &[u32], to: &mut [u32]) {
-    let mut i = 0;
-    while i < STATE {
+    for i in 0..STATE {
         set_word(to, i, word_at(from, i) as u64);
-        i += 1;
     }
 }
 
 // Where the words of two states first differ; the length of a state where they do not.
 fn difference(a: &[u32], b: &[u32]) -> usize {
-    let mut i = 0;
-    while i < STATE {
+    for i in 0..STATE {
         if word_at(a, i) != word_at(b, i) {
             return i;
         }
-        i += 1;
     }
     STATE
 }
@@ -117,23 +115,24 @@ fn actor(entry: &[u8]) -> u8
 }
 
 // Prints of a move that does not agree what was answered, and the first word that is another than expected.
-fn complain(name: &[u8], answer: u64, at: usize, word: u32, expected: u32) {
-    io::write_all(1, name);
-    io::write_all(1, b"answer ");
-    io::print_decimal(1, answer);
+fn complain(
+    rt: &impl Print,
+    name: &[u8],
+    answer: u64,
+    at: usize,
+    word: u32,
+    expected: u32,
+) -> io::Result<()> {
+    rt.write_all(name)?;
+    print!(rt; "answer {answer}")?;
     if at < STATE {
-        io::write_all(1, b", word ");
-        io::print_decimal(1, at as u64);
-        io::write_all(1, b" is ");
-        io::print_decimal(1, word as u64);
-        io::write_all(1, b" and not ");
-        io::print_decimal(1, expected as u64);
+        print!(rt; ", word {at} is {word} and not {expected}")?;
     }
-    io::write_all(1, b"\n");
+    rt.write_all(b"\n")
 }
 
 // Whether the move of the record has the answer and leaves the words that are expected. It is made on a copy.
-fn agrees(entry: &[u8], start: &[u32], expected: &[u32]) -> bool
+fn agrees(rt: &impl Print, entry: &[u8], start: &[u32], expected: &[u32]) -> io::Result<bool>
     requires { length entry.now ≡ 19 }
 {
     let mut words = [0u32; 16384];
@@ -142,16 +141,17 @@ fn agrees(entry: &[u8], start: &[u32], expected: &[u32]) -> bool
     let n = answer_number(r);
     let at = difference(&words, expected);
     if n == digits::two(entry, 6) as u64 && at == STATE {
-        return true;
+        return Ok(true);
     }
     complain(
+        rt,
         &entry[9..18],
         n,
         at,
         word_at(&words, at),
         word_at(expected, at),
-    );
-    false
+    )?;
+    Ok(false)
 }
 
 // One move more.
@@ -172,12 +172,12 @@ fn counted(t: Tally, agreed: bool) -> Tally
 }
 
 // A record that is cut short, counted as a move that does not agree.
-fn cut_short(t: Tally) -> Tally
+fn cut_short(rt: &impl Print, t: Tally) -> io::Result<Tally>
     requires { (t.all ≤ 65536) × (t.agreed ≤ t.all) }
-    ensures { (result.all ≡ t.all + 1) × (result.agreed ≤ result.all) }
+    ensures { IfOk result (λ u. (u.all ≡ t.all + 1) × (u.agreed ≤ u.all)) }
 {
-    io::write_all(1, b"a record is cut short\n");
-    counted(t, false)
+    rt.write_all(b"a record is cut short\n")?;
+    Ok(counted(t, false))
 }
 
 // Does what one record says to the words, where it is no move.
@@ -206,122 +206,129 @@ fn follow(entry: &[u8], start: &mut [u32], expected: &mut [u32])
 }
 
 // Goes through the records. A record that is cut short ends them, and agrees with nothing.
-fn go_through(records: &[u8], start: &mut [u32], expected: &mut [u32], t: Tally) -> Tally
+fn go_through(
+    rt: &impl Print,
+    records: &[u8],
+    start: &mut [u32],
+    expected: &mut [u32],
+    t: Tally,
+) -> io::Result<Tally>
     requires { (t.all + length records.now ≤ 65536) × (t.agreed ≤ t.all) }
-    ensures { (result.all ≤ 65536) × (result.agreed ≤ result.all) }
+    ensures { IfOk result (λ u. (u.all ≤ 65536) × (u.agreed ≤ u.all)) }
 {
     if records.len() == 0 {
-        return t;
+        return Ok(t);
     }
     if records.len() < RECORD {
-        return cut_short(t);
+        return cut_short(rt, t);
     }
     if records[0] == b'm' {
-        let u = counted(t, agrees(&records[..RECORD], start, expected));
+        let u = counted(t, agrees(rt, &records[..RECORD], start, expected)?);
         copy(start, expected);
-        return go_through(&records[RECORD..], start, expected, u);
+        return go_through(rt, &records[RECORD..], start, expected, u);
     }
     follow(&records[..RECORD], start, expected);
-    go_through(&records[RECORD..], start, expected, t)
+    go_through(rt, &records[RECORD..], start, expected, t)
 }
 
 // Prints how many agree.
-fn report(name: &[u8], t: Tally) {
-    io::print_decimal(1, t.agreed);
-    io::write_all(1, b" of ");
-    io::print_decimal(1, t.all);
-    io::write_all(1, name);
+fn report(rt: &impl Print, name: &str, t: Tally) -> io::Result<()> {
+    let Tally { all, agreed } = t;
+    print!(rt; "{agreed} of {all}{name}")
 }
 
 // The moves of the records, added to those before.
-fn make_moves(name: &[u8], records: &[u8], before: Tally) -> Tally
+fn make_moves(rt: &impl Print, name: &str, records: &[u8], before: Tally) -> io::Result<Tally>
     requires { (length records.now ≤ 65536) × (before.all ≤ 16777216) × (before.agreed ≤ before.all) }
-    ensures { (result.all ≤ before.all + 65536) × (result.agreed ≤ result.all) }
+    ensures { IfOk result (λ t. (t.all ≤ before.all + 65536) × (t.agreed ≤ t.all)) }
 {
     let mut start = [0u32; 16384];
     let mut expected = [0u32; 16384];
     let t = go_through(
+        rt,
         records,
         &mut start,
         &mut expected,
         Tally { all: 0, agreed: 0 },
-    );
-    report(b" ", t);
-    io::write_all(1, name);
-    io::write_all(1, b"\n");
-    Tally {
+    )?;
+    report(rt, " ", t)?;
+    println!(rt; "{name}")?;
+    Ok(Tally {
         all: before.all + t.all,
         agreed: before.agreed + t.agreed,
-    }
+    })
 }
 
 // The moves of the file `name`, added to those before. A file that is not read is one move that does not agree.
-fn group(name: &[u8], before: Tally) -> Tally
+#[tactic(auto, using(input::specs::Within::counted))]
+fn group<R: Files + Print + Eprint>(rt: &R, name: &str, before: Tally) -> io::Result<Tally>
     requires { (before.all ≤ 16777216) × (before.agreed ≤ before.all) }
-    ensures { (result.all ≤ before.all + 65536) × (result.agreed ≤ result.all) }
+    ensures { IfOk result (λ t. (t.all ≤ before.all + 65536) × (t.agreed ≤ t.all)) }
 {
-    let mut data = io::large_buffer();
-    let r = input::read_file(name, &mut data);
+    let mut data = [0u8; 65536];
+    let r = input::read_file(rt, name, &mut data);
     match r {
-        Input::Bytes(n) => make_moves(name, &data[..n], before),
+        Input::Bytes(n) => make_moves(rt, name, &data[..n], before),
         Input::Unread => {
-            io::write_all(1, &input::UNREAD);
-            Tally {
+            rt.write_all(&input::UNREAD)?;
+            Ok(Tally {
                 all: before.all + 1,
                 agreed: before.agreed,
-            }
+            })
         }
     }
 }
 
 // The groups of the rules that leave messages alone.
-fn rules(t: Tally) -> Tally
+fn rules<R: Files + Print + Eprint>(rt: &R, t: Tally) -> io::Result<Tally>
     requires { (t.all ≤ 65536) × (t.agreed ≤ t.all) }
-    ensures { (result.all ≤ 524288) × (result.agreed ≤ result.all) }
+    ensures { IfOk result (λ u. (u.all ≤ 524288) × (u.agreed ≤ u.all)) }
 {
-    let a = group(b"numbers", t);
-    let b = group(b"names", a);
-    let c = group(b"heap", b);
-    group(b"literals", c)
+    let a = group(rt, "numbers", t)?;
+    let b = group(rt, "names", a)?;
+    let c = group(rt, "heap", b)?;
+    group(rt, "literals", c)
 }
 
 // The groups of the rules of messages.
-fn messages(t: Tally) -> Tally
+fn messages<R: Files + Print + Eprint>(rt: &R, t: Tally) -> io::Result<Tally>
     requires { (t.all ≤ 524288) × (t.agreed ≤ t.all) }
-    ensures { (result.all ≤ 1048576) × (result.agreed ≤ result.all) }
+    ensures { IfOk result (λ u. (u.all ≤ 1048576) × (u.agreed ≤ u.all)) }
 {
-    let a = group(b"sends", t);
-    let b = group(b"isolates", a);
-    let c = group(b"resolving", b);
-    let d = group(b"takes", c);
-    group(b"futures", d)
+    let a = group(rt, "sends", t)?;
+    let b = group(rt, "isolates", a)?;
+    let c = group(rt, "resolving", b)?;
+    let d = group(rt, "takes", c)?;
+    group(rt, "futures", d)
 }
 
 // The groups of refusals 8 to 15.
-fn refusals(t: Tally) -> Tally
+fn refusals<R: Files + Print + Eprint>(rt: &R, t: Tally) -> io::Result<Tally>
     requires { (t.all ≤ 1048576) × (t.agreed ≤ t.all) }
-    ensures { (result.all ≤ 2097152) × (result.agreed ≤ result.all) }
+    ensures { IfOk result (λ u. (u.all ≤ 2097152) × (u.agreed ≤ u.all)) }
 {
-    let a = group(b"idle", t);
-    let b = group(b"refused", a);
-    group(b"resolved", b)
+    let a = group(rt, "idle", t)?;
+    let b = group(rt, "refused", a)?;
+    group(rt, "resolved", b)
 }
 
 // The groups of limits, refusal 16.
-fn limits(t: Tally) -> Tally
+fn limits<R: Files + Print + Eprint>(rt: &R, t: Tally) -> io::Result<Tally>
     requires { (t.all ≤ 2097152) × (t.agreed ≤ t.all) }
-    ensures { (result.all ≤ 4194304) × (result.agreed ≤ result.all) }
+    ensures { IfOk result (λ u. (u.all ≤ 4194304) × (u.agreed ≤ u.all)) }
 {
-    let a = group(b"moves", t);
-    let b = group(b"inboxes", a);
-    let c = group(b"entities", b);
-    let d = group(b"bodies", c);
-    let e = group(b"nodes", d);
-    group(b"actors", e)
+    let a = group(rt, "moves", t)?;
+    let b = group(rt, "inboxes", a)?;
+    let c = group(rt, "entities", b)?;
+    let d = group(rt, "bodies", c)?;
+    let e = group(rt, "nodes", d)?;
+    group(rt, "actors", e)
 }
 
-fn main() {
-    let r = rules(Tally { all: 0, agreed: 0 });
-    let t = limits(refusals(messages(r)));
-    report(b" moves agree\n", t);
+fn main(rt: HostRuntime) -> io::Result<()> {
+    let r = rules(&rt, Tally { all: 0, agreed: 0 })?;
+    let m = messages(&rt, r)?;
+    let f = refusals(&rt, m)?;
+    let t = limits(&rt, f)?;
+    report(&rt, " moves agree\n", t)
 }
