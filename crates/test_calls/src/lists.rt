@@ -4,57 +4,55 @@ ghost use Rattle.std.specs.Prelude.{◌≤◌, length};
 
 use crate::says;
 use atlite::{ActorNo, Listed};
+use std::io;
 
 // A run, and what it answers.
-fn run(state: &mut [u32], entries: &[u8]) {
-    io::write_all(1, b"run: ");
-    says::ran(engine::run(state, entries));
-    io::write_all(1, b"\n");
+fn run(rt: &impl Print, state: &mut [u32], entries: &[u8]) -> io::Result<()> {
+    print!(rt; "run: ")?;
+    says::ran(rt, engine::run(state, entries))?;
+    println!(rt)
 }
 
 // A move, and what it answers.
-fn step(state: &mut [u32], actor: u8) {
-    io::write_all(1, b"move of ");
-    io::print_decimal(1, actor as u64);
-    io::write_all(1, b": ");
-    says::moved(engine::move_actor(state, ActorNo(actor)));
-    io::write_all(1, b"\n");
+fn step(rt: &impl Print, state: &mut [u32], actor: u8) -> io::Result<()> {
+    print!(rt; "move of {actor}: ")?;
+    says::moved(rt, engine::move_actor(state, ActorNo(actor)))?;
+    println!(rt)
 }
 
 // The same run so many times.
-fn rounds(state: &mut [u32], entries: &[u8], n: usize) {
-    let mut i = 0;
-    while i < n {
-        run(state, entries);
-        i += 1;
+fn rounds(rt: &impl Print, state: &mut [u32], entries: &[u8], n: usize) -> io::Result<()> {
+    for _ in 0..n {
+        run(rt, state, entries)?;
     }
+    Ok(())
 }
 
 // Each actor as far as it comes, one after another; the fourth stops early.
-fn in_turn(state: &mut [u32]) {
-    run(state, &[0u8; 60]);
-    run(state, &[1u8; 20]);
-    run(state, &[2u8; 20]);
-    run(state, &[3u8, 3u8, 3u8]);
-    run(state, &[0u8; 40]);
+fn in_turn(rt: &impl Print, state: &mut [u32]) -> io::Result<()> {
+    run(rt, state, &[0u8; 60])?;
+    run(rt, state, &[1u8; 20])?;
+    run(rt, state, &[2u8; 20])?;
+    run(rt, state, &[3u8, 3u8, 3u8])?;
+    run(rt, state, &[0u8; 40])
 }
 
 // All of them by turns, with moves between the runs, and entries of actors that are not there or have nothing to do.
-fn by_turns(state: &mut [u32]) {
-    rounds(state, &[0u8, 1u8, 2u8, 0u8], 10);
-    step(state, 1);
-    step(state, 7);
-    run(state, b"");
-    run(state, &[3u8, 9u8, 3u8, 255u8]);
+fn by_turns(rt: &impl Print, state: &mut [u32]) -> io::Result<()> {
+    rounds(rt, state, &[0u8, 1u8, 2u8, 0u8], 10)?;
+    step(rt, state, 1)?;
+    step(rt, state, 7)?;
+    run(rt, state, b"")?;
+    run(rt, state, &[3u8, 9u8, 3u8, 255u8])
 }
 
 // The rest of that list.
-fn by_turns_on(state: &mut [u32]) {
-    rounds(state, &[2u8, 1u8, 0u8, 2u8], 12);
-    run(state, &[0u8; 20]);
-    step(state, 3);
-    step(state, 1);
-    run(state, &[0u8; 20]);
+fn by_turns_on(rt: &impl Print, state: &mut [u32]) -> io::Result<()> {
+    rounds(rt, state, &[2u8, 1u8, 0u8, 2u8], 12)?;
+    run(rt, state, &[0u8; 20])?;
+    step(rt, state, 3)?;
+    step(rt, state, 1)?;
+    run(rt, state, &[0u8; 20])
 }
 
 // How many bytes `text` has of a listing; those that do not fit were not written.
@@ -70,36 +68,35 @@ fn listing(state: &[u32], text: &mut [u8]) -> usize
             }
             n
         }
-        Listed::Refused(n) => 0,
+        Listed::Refused(_) => 0,
     }
 }
 
 // Whether two listings are the same; what is said of the words goes on the same line.
-fn same(a: &[u8], b: &[u8]) {
+fn same(rt: &impl Print, a: &[u8], b: &[u8]) -> io::Result<()> {
     if check::same(a, b) {
-        io::write_all(1, b"the listings are equal");
-        return;
+        return print!(rt; "the listings are equal");
     }
-    io::write_all(1, b"the listings differ");
+    print!(rt; "the listings differ")
 }
 
 // Loads the script twice and makes one list of calls on each.
-pub(crate) fn both(text: &[u8]) {
+pub(crate) fn both(rt: &impl Print, text: &[u8]) -> io::Result<()> {
     let mut table = [0u32; 1280];
     let mut one = [0u32; 16384];
     let mut two = [0u32; 16384];
     engine::read(text, &mut table);
     engine::load(&table, &mut one);
     engine::load(&table, &mut two);
-    in_turn(&mut one);
-    let mut first = io::buffer();
+    in_turn(rt, &mut one)?;
+    let mut first = [0u8; 4096];
     let n = listing(&one, &mut first);
-    io::write_all(1, &first[..n]);
-    by_turns(&mut two);
-    by_turns_on(&mut two);
-    let mut second = io::buffer();
+    rt.write_all(&first[..n])?;
+    by_turns(rt, &mut two)?;
+    by_turns_on(rt, &mut two)?;
+    let mut second = [0u8; 4096];
     let m = listing(&two, &mut second);
-    io::write_all(1, &second[..m]);
-    same(&first[..n], &second[..m]);
-    says::kept(&one, &two, 0);
+    rt.write_all(&second[..m])?;
+    same(rt, &first[..n], &second[..m])?;
+    says::kept(rt, &one, &two, 0)
 }

@@ -1,33 +1,35 @@
 // Calls of the engine as a caller makes them: two lists of calls that come to the same, and buffers of every length with words of every
 // kind. Of each call its answer is printed, and whether what it must not write is as it was.
+#![tactic(auto)]
+
 mod buffers;
 mod lists;
 mod says;
 
 use input::Input;
+use std::io;
+use std::rt::Files;
 
 // The calls with a script, and with one that is too large when it is expanded.
-fn with_scripts(script: &[u8]) {
-    let mut large = io::buffer();
-    let r = input::read_file(b"large", &mut large);
+#[tactic(auto, using(input::specs::Within::counted))]
+fn with_scripts<R: Files + Print + Eprint>(rt: &R, script: &[u8]) -> io::Result<()> {
+    let mut large = [0u8; 4096];
+    let r = input::read_file(rt, "large", &mut large);
     match r {
         Input::Bytes(n) => {
-            lists::both(script);
-            buffers::all(script, &large[..n]);
+            lists::both(rt, script)?;
+            buffers::all(rt, script, &large[..n])
         }
-        Input::Unread => {
-            io::write_all(1, &input::UNREAD);
-        }
+        Input::Unread => rt.write_all(&input::UNREAD),
     }
 }
 
-fn main() {
-    let mut script = io::buffer();
-    let r = input::read_file(b"script", &mut script);
+#[tactic(auto, using(input::specs::Within::counted))]
+fn main(rt: HostRuntime) -> io::Result<()> {
+    let mut script = [0u8; 4096];
+    let r = input::read_file(&rt, "script", &mut script);
     match r {
-        Input::Bytes(n) => with_scripts(&script[..n]),
-        Input::Unread => {
-            io::write_all(1, &input::UNREAD);
-        }
+        Input::Bytes(n) => with_scripts(&rt, &script[..n]),
+        Input::Unread => rt.write_all(&input::UNREAD),
     }
 }
