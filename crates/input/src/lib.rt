@@ -1,7 +1,9 @@
 // Input read to its end, where a read that fails is not the end; `digits` reads numbers in the records of test programs.
 #![tactic(auto)]
 
-ghost use Rattle.std.specs.Prelude.{◌+◌, ◌≤◌, length};
+ghost use Rattle.std.specs.Prelude.{◌+◌, ◌≤◌, ◌≡◌, length, take, true, false};
+ghost use Rattle.std.specs.Io.KnownBytes.{Keeps};
+ghost use Rattle.input.specs.Known.{Gives, IsWhole};
 ghost use Rattle.input.specs.Within.{Within};
 
 use std::fs;
@@ -31,7 +33,10 @@ struct Got {
 // One read to the bytes of `buffer` from `at` on.
 fn get<R: Read>(reader: &mut R, buffer: &mut [u8], at: usize) -> Got
     requires { at ≤ length buffer.old }
-    ensures { at + result.n ≤ length buffer.old }
+    ensures upper_bound { at + result.n ≤ length buffer.old }
+    ensures front { take at buffer.new ≡ take at buffer.old }
+    ensures given { result.failed ≡ false → Gives (R.remaining reader.old) (R.remaining reader.new) buffer.new at result.n }
+    ensures failure { result.failed ≡ true → Keeps (R.remaining reader.old) (R.remaining reader.new) }
 {
     match reader.read(&mut buffer[at..]) {
         Ok(n) => Got { n, failed: false },
@@ -41,10 +46,12 @@ fn get<R: Read>(reader: &mut R, buffer: &mut [u8], at: usize) -> Got
 
 // Reads to the end of the input, or until `buffer` is full.
 //
-// The count is within the buffer. That the bytes are the input's is not said, since no contract speaks of what is read.
+// The count is within the buffer. Of a reader whose bytes are known, as one over memory, they are what stands there, and none is left unless
+// the buffer is full. Of a file or standard input no contract says which bytes it has.
 #[tactic(auto, using(crate::specs::Within::laws))]
 pub fn read_all<R: Read>(reader: &mut R, buffer: &mut [u8]) -> Input
-    ensures { Within result (length buffer.new) }
+    ensures count { Within result (length buffer.new) }
+    ensures bytes { IsWhole (R.remaining reader.old) (R.remaining reader.new) result buffer.new }
 {
     let mut at = 0;
     let mut left = FAILURES;
@@ -81,3 +88,6 @@ pub fn read_file<R: Files + Eprint>(rt: &R, name: &str, buffer: &mut [u8]) -> In
 
 // The line that a program writes, and nothing else, where its input was not read.
 pub const UNREAD: [u8; 9] = *b"(unread)\n";
+
+#[cfg(test)]
+mod tests;
