@@ -3,6 +3,7 @@ ghost use Rattle.std.specs.Prelude.{◌≡◌, ◌+◌, ◌≤◌, length};
 ghost use Rattle.input.specs.Digits.{digit_of, two_at, five_at};
 
 // The digit `b`.
+#[tactic(auto, using(crate::specs::Digits::laws))]
 pub fn digit(b: u8) -> usize
     ensures value { result ≡ digit_of b }
     ensures upper_bound { result ≤ 9 }
@@ -17,6 +18,7 @@ pub fn digit(b: u8) -> usize
 }
 
 // The number of two digits at `at`.
+#[tactic(auto, unfolding(crate::specs::Digits::two_at))]
 pub fn two(bytes: &[u8], at: usize) -> usize
     requires { at + 2 ≤ length bytes.now }
     ensures value { result ≡ two_at bytes.now at }
@@ -26,6 +28,7 @@ pub fn two(bytes: &[u8], at: usize) -> usize
 }
 
 // The number of five digits at `at`.
+#[tactic(auto, unfolding(crate::specs::Digits::five_at))]
 pub fn five(bytes: &[u8], at: usize) -> usize
     requires { at + 5 ≤ length bytes.now }
     ensures value { result ≡ five_at bytes.now at }
