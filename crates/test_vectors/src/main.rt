@@ -4,23 +4,27 @@
 //
 // A record is the length of the input in five digits, a space, the length of what is to be written in five digits and the end of the line;
 // then the input, and what is to be written.
+#![tactic(auto)]
 ghost use Rattle.std.specs.Prelude.{◌+◌, ◌≤◌, length};
 ghost use Rattle.play.specs.Limits.{replay_room};
 
 use input::{Input, digits};
+use std::io::Read;
+use std::rt::Files;
+use std::{fs, io};
 
 // The file has no more records.
 const RECORDS: u64 = 1000;
 
 // Which program the inputs of a file are for.
-#[derive(Drop)]
+#[derive(Clone, Copy)]
 enum Program {
     Loops,
     Replay,
 }
 
 // What a record came to.
-#[derive(Drop)]
+#[derive(Clone, Copy)]
 enum Came {
     Agreed,
     Differed,
@@ -56,11 +60,11 @@ fn compare(program: Program, input: &[u8], n: usize, stored: &[u8], m: usize) ->
 }
 
 // Reads `n` bytes to the front of `buffer`, and says whether they were there.
-fn fill(fd: i32, buffer: &mut [u8], n: usize) -> bool {
+fn fill<R: Read>(file: &mut R, buffer: &mut [u8], n: usize) -> bool {
     if buffer.len() < n {
         return false;
     }
-    let r = input::read_all(fd, &mut buffer[..n]);
+    let r = input::read_all(file, &mut buffer[..n]);
     match r {
         Input::Bytes(k) => k == n,
         Input::Unread => false,
@@ -68,13 +72,13 @@ fn fill(fd: i32, buffer: &mut [u8], n: usize) -> bool {
 }
 
 // What stands behind the head of a record. A record that is cut short or too long agrees with nothing.
-fn play_next(program: Program, fd: i32, head: &[u8; 12]) -> Came {
+fn play_next<R: Read>(program: Program, file: &mut R, head: &[u8; 12]) -> Came {
     let n = digits::five(head, 0);
     let m = digits::five(head, 6);
     let mut input = [0u8; play::INPUT];
-    let mut stored = io::large_buffer();
-    if fill(fd, &mut input, n) {
-        if fill(fd, &mut stored, m) {
+    let mut stored = [0u8; 65536];
+    if fill(file, &mut input, n) {
+        if fill(file, &mut stored, m) {
             return compare(program, &input, n, &stored, m);
         }
     }
@@ -82,62 +86,55 @@ fn play_next(program: Program, fd: i32, head: &[u8; 12]) -> Came {
 }
 
 // The next record. Where no byte of a head is there, the file has ended.
-fn next(program: Program, fd: i32) -> Came {
+fn next<R: Read>(program: Program, file: &mut R) -> Came {
     let mut head = [0u8; 12];
-    let r = input::read_all(fd, &mut head);
+    let r = input::read_all(file, &mut head);
     match r {
         Input::Bytes(n) => {
             if n == 0 {
                 return Came::Ended;
             }
-            play_next(program, fd, &head)
+            play_next(program, file, &head)
         }
         Input::Unread => Came::Unread,
     }
 }
 
 // Says how many of all records agree.
-fn tell(agreed: u64, all: u64) {
-    io::print_decimal(1, agreed);
-    io::write_all(1, b" of ");
-    io::print_decimal(1, all);
-    io::write_all(1, b" inputs are played as stored\n");
+fn tell(rt: &impl Print, agreed: u64, all: u64) -> io::Result<()> {
+    println!(rt; "{agreed} of {all} inputs are played as stored")
 }
 
 // Goes through at most `left` records more; of those before, `agreed` agree.
-fn go_through(program: Program, fd: i32, left: u64, agreed: u64)
+fn go_through<R: Read>(rt: &impl Print, program: Program, file: &mut R, left: u64, agreed: u64) -> io::Result<()>
     requires { agreed + left ≤ 1000 }
 {
     if left == 0 {
-        return tell(agreed, RECORDS);
+        return tell(rt, agreed, RECORDS);
     }
-    let came = next(program, fd);
+    let came = next(program, file);
     match came {
-        Came::Agreed => go_through(program, fd, left - 1, agreed + 1),
-        Came::Differed => go_through(program, fd, left - 1, agreed),
-        Came::Ended => tell(agreed, RECORDS - left),
-        Came::Unread => {
-            io::write_all(1, &input::UNREAD);
-        }
+        Came::Agreed => go_through(rt, program, file, left - 1, agreed + 1),
+        Came::Differed => go_through(rt, program, file, left - 1, agreed),
+        Came::Ended => tell(rt, agreed, RECORDS - left),
+        Came::Unread => rt.write_all(&input::UNREAD),
     }
 }
 
 // Plays the records of the file with this name.
-fn play_file(program: Program, name: &[u8]) {
-    let fd = os::open_read(name);
-    if fd < 0 {
-        os::fail(name);
-        return;
+fn play_file<R: Files + Print + Eprint>(rt: &R, program: Program, name: &str) -> io::Result<()> {
+    match fs::open(rt, name) {
+        Ok(mut file) => {
+            print!(rt; "{name}: ")?;
+            go_through(rt, program, &mut file, RECORDS, 0)
+        }
+        Err(e) => eprintln!(rt; "{name}: {e}"),
     }
-    io::write_all(1, name);
-    io::write_all(1, b": ");
-    go_through(program, fd, RECORDS, 0);
-    libc::close(fd);
 }
 
-fn main() {
-    play_file(Program::Loops, b"worked");
-    play_file(Program::Loops, b"readings");
-    play_file(Program::Loops, b"random");
-    play_file(Program::Replay, b"replays");
+fn main(rt: HostRuntime) -> io::Result<()> {
+    play_file(&rt, Program::Loops, "worked")?;
+    play_file(&rt, Program::Loops, "readings")?;
+    play_file(&rt, Program::Loops, "random")?;
+    play_file(&rt, Program::Replay, "replays")
 }
