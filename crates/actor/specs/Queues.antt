@@ -1,6 +1,6 @@
 -- The messages that wait, given to their futures. Words have them apart from the slots, in order of their futures; so the slots tell
 -- entities with no queue, and each open future is given the messages that are aimed at it. Assumes nothing.
-use Rattle.std.specs.Prelude.{ℕ, zero, suc, ◌+◌, ◌-◌, ◌*◌, ◌≤◌, ◌%◌, ◌≡◌, Bool, length, drop, get_or}
+use Rattle.std.specs.Prelude.{ℕ, zero, suc, ◌+◌, ◌-◌, ◌*◌, ◌≤◌, ◌%◌, ◌≡◌, Bool, length, drop, get_or, if◌then◌else◌}
 use Rattle.std.proofs.Math.Path.{refl}
 use Rattle.std.proofs.Common.{sym, ap, ap₂, ◌∙◌, subst as transp, add-zero, arith, get_or-drop}
 use Rattle.std.proofs.Math.Bool.{true, false}
@@ -9,7 +9,7 @@ use Rattle.std.proofs.Math.Option.{none, some}
 use borrow.Author.Tests.{eqb-true, eqb-false}
 use Rattle.std.proofs.Math.Dec.{eqb}
 use Rattle.std.proofs.Math.ListN.{get_elem?}
-use Rattle.atlite.specs.Base.{if◌then◌else◌, sum}
+use Rattle.atlite.specs.Base.{sum}
 use Rattle.atlite.specs.Term.{made, Value, ref}
 use Rattle.atlite.specs.State.{Message, shared, isolated, Entity, object, future, resolver}
 use Rattle.atlite.specs.Limits.{body_nodes}
@@ -107,7 +107,7 @@ fill-nodes (o ∷ h) n q = ap₂ ◌+◌ (nodes-same o (mine n q)) (fill-nodes h
 
 -- ---- those of one future, and those after it
 mine-others : (n : ℕ) (q : List Message) → mine n q ++ others n q ≡ q
-unfolding mine others if◌then◌else◌
+unfolding mine others
 mine-others n [] = refl
 mine-others n (m ∷ q) = go (eqb (aim m) n) (mine-others n q)
   where
@@ -117,7 +117,7 @@ mine-others n (m ∷ q) = go (eqb (aim m) n) (mine-others n q)
 
 module _ (Q : Message → Type 0) (n : ℕ) where
   mine-each : (q : List Message) → Each Q q → Each (λ m. Q m × (aim m ≡ n)) (mine n q)
-  unfolding mine if◌then◌else◌
+  unfolding mine
   mine-each [] h = tt
   mine-each (m ∷ q) h = go (eqb (aim m) n) refl (mine-each q h.1)
     where
@@ -126,7 +126,7 @@ module _ (Q : Message → Type 0) (n : ℕ) where
       go false e i = tt
 
   others-each : (q : List Message) → Each Q q → Each Q (others n q)
-  unfolding others if◌then◌else◌
+  unfolding others
   others-each [] h = tt
   others-each (m ∷ q) h = go (eqb (aim m) n) (others-each q h.1)
     where
@@ -140,7 +140,7 @@ Sorted lo [] = Unit {0}
 Sorted lo (m ∷ q) = (lo ≤ aim m) × Sorted (aim m) q
 
 others-sorted : (n : ℕ) (q : List Message) → Sorted n q → Sorted (suc n) (others n q)
-unfolding others if◌then◌else◌
+unfolding others
 others-sorted n [] h = tt
 others-sorted n (m ∷ q) h = go (eqb (aim m) n) refl (λ s. others-sorted n q s)
   where
@@ -157,7 +157,7 @@ Opens n h m = (i : ℕ) → aim m ≡ n + i → (o : Entity) × (get_elem? h i �
 
 -- an entity that is no open future has none
 mine-none : (n : ℕ) (o : Entity) (h : List Entity) (q : List Message) → (kind_of_entity o ≡ 3 → ⊥) → Each (Opens n (o ∷ h)) q → mine n q ≡ []
-unfolding mine if◌then◌else◌
+unfolding mine
 mine-none n o h [] f k = refl
 mine-none n o h (m ∷ q) f k = go (eqb (aim m) n) refl
   where

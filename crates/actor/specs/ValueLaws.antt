@@ -1,11 +1,11 @@
 -- What each way through the functions over zeros, values and names returns. Assumes nothing.
-use Rattle.std.specs.Prelude.{ℕ, suc, ◌+◌, ◌-◌, ◌≤◌, ◌<◌, ◌/◌, ◌%◌, ◌≡◌, refl, Bool, true, false, ◌&&◌, not, List, ◌++◌, eqb, length, take, drop, get_or}
+use Rattle.std.specs.Prelude.{ℕ, suc, ◌+◌, ◌-◌, ◌≤◌, ◌<◌, ◌/◌, ◌%◌, ◌≡◌, refl, Bool, true, false, ◌&&◌, not, List, ◌++◌, eqb, length, take, drop, get_or, if◌then◌else◌}
 use Rattle.std.proofs.Math.Path.{sym}
 use Rattle.std.proofs.Common.{ap, ◌∙◌, rules, take-append-drop, length-drop, length-take-le, take_at}
 use Rattle.std.proofs.Math.Option.{Option, none, some}
 use native.Mathlib.Omega.{arith}
 use borrow.Author.Tests.{eq-eqb, ne_eqb}
-use Rattle.atlite.specs.Base.{member, all, if◌then◌else◌, any}
+use Rattle.atlite.specs.Base.{member, all, any}
 use Rattle.atlite.specs.Term.{Value}
 use Rattle.atlite.specs.Valid.{is_name}
 use Rattle.layout.specs.Numbers.{name_limit}
@@ -99,11 +99,9 @@ module _ (x n y : ℕ) where
     step-among m k = rw k
 
     pub among-here : y ≡ x % name_limit → true ≡ member y (names_in n x)
-    unfolding if◌then◌else◌
     among-here e = rw (step-among (n - 1) (omega arith), eq-eqb y (x % name_limit) e)
 
     pub among-more : (y ≡ x % name_limit → ⊥) → (r : Bool) → r ≡ member y (names_in (n - 1) (x / name_limit)) → r ≡ member y (names_in n x)
-    unfolding if◌then◌else◌
     among-more e r h = rw (step-among (n - 1) (omega arith), ne_eqb y (x % name_limit) e) h
 
 pub ruleset among-laws = (rules, among_none, among-here, among-more)

@@ -2,7 +2,7 @@
 --
 -- A rule is written in `do` notation over `Result`: the first test that fails decides the cause, so the order of the lines of a
 -- rule is the order of the causes in document 01's table. Tests are `Bool`, so that every definition computes.
-use Rattle.std.specs.Prelude.{ℕ, ◌+◌, Bool, true, false, ◌&&◌, not, List, [], ◌∷◌, eqb}
+use Rattle.std.specs.Prelude.{ℕ, ◌+◌, Bool, true, false, ◌&&◌, not, List, [], ◌∷◌, eqb, if◌then◌else◌}
 use Prim.Native.Char.{code}
 use Prim.Native.String as S
 use Rattle.std.proofs.Math.Option.{Option, none, some}
@@ -61,11 +61,6 @@ abbrev pub ◌>>◌ : {A : Type 0} → Result (Unit {0}) → Result A → Result
 ◌>>◌ (done u) r = r
 ◌>>◌ (refused n) r = refused n
 
-infix 15 if◌then◌else◌
-unfoldable pub if◌then◌else◌ : {A : Type 0} → Bool → A → A → A
-if◌then◌else◌ true a b = a
-if◌then◌else◌ false a b = b
-
 -- a quoted text's bytes
 unfoldable pub bytes : S.String → List ℕ
 bytes S.[] = []
@@ -104,5 +99,5 @@ same_bytes (x ∷ xs) (y ∷ ys) = eqb x y && same_bytes xs ys
 
 -- all definitions above, opened together: name it on an `unfolding` line
 unfoldable pub Base : Unit {0}
-unfolding is_done or_refuse require if◌then◌else◌ bytes all any distinct_by sum same_bytes
+unfolding is_done or_refuse require bytes all any distinct_by sum same_bytes
 Base = tt

@@ -2,9 +2,9 @@
 --
 -- Document 01, "Script text", and of "State" the sentence on the script's words. The dictionary of a text is its unreserved words, numbered
 -- as they first turn up. `apply` has a number of its own in every script and is left out of the dictionary.
-use Rattle.std.specs.Prelude.{ℕ, suc, ◌+◌, ◌-◌, ◌*◌, Bool, false, ◌&&◌, ◌||◌, not, List, [], ◌∷◌, ◌++◌, length, eqb, leb}
+use Rattle.std.specs.Prelude.{ℕ, suc, ◌+◌, ◌-◌, ◌*◌, Bool, false, ◌&&◌, ◌||◌, not, List, [], ◌∷◌, ◌++◌, length, eqb, leb, if◌then◌else◌}
 use Rattle.std.proofs.Math.Option.{Option, none, some}
-use Rattle.atlite.specs.Base.{if◌then◌else◌, bytes, same_bytes, all}
+use Rattle.atlite.specs.Base.{bytes, same_bytes, all}
 use Rattle.atlite.specs.Term.{apply, first_word}
 use Rattle.atlite.specs.Keywords.{op_word, src_word, print_kind, operators, spelling, reserved}
 

@@ -1,9 +1,9 @@
 -- What the program `loops` prints for an input. Assumes nothing.
 --
 -- Document 01, "Listing and worked examples". The schedule line is judged before anything else is looked at.
-use Rattle.std.specs.Prelude.{ℕ, ◌-◌, ◌&&◌, List, [], ◌∷◌, leb}
+use Rattle.std.specs.Prelude.{ℕ, ◌-◌, ◌&&◌, List, [], ◌∷◌, leb, if◌then◌else◌}
 use Rattle.std.proofs.Math.Option.{Option, none, some}
-use Rattle.atlite.specs.Base.{Base, Result, ◌>>=◌, or_refuse, if◌then◌else◌}
+use Rattle.atlite.specs.Base.{Base, Result, ◌>>=◌, or_refuse}
 use Rattle.atlite.specs.Reader.{Reader}
 use Rattle.atlite.specs.Lexicon.{Bytes, Lexicon}
 use Rattle.atlite.specs.Script.{Script}

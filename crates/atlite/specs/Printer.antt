@@ -1,8 +1,8 @@
 -- The text of a script: the one text that the reader takes for it. Assumes nothing.
 --
 -- Document 01, "Script text", the sentences on spaces and brackets. The listing prints numbers, words and bracketed items in the same way.
-use Rattle.std.specs.Prelude.{ℕ, zero, suc, ◌+◌, ◌-◌, ◌/◌, ◌%◌, true, false, List, [], ◌∷◌, ◌++◌, map, get_or, ltb}
-use Rattle.atlite.specs.Base.{if◌then◌else◌, bytes}
+use Rattle.std.specs.Prelude.{ℕ, zero, suc, ◌+◌, ◌-◌, ◌/◌, ◌%◌, true, false, List, [], ◌∷◌, ◌++◌, map, get_or, ltb, if◌then◌else◌}
+use Rattle.atlite.specs.Base.{bytes}
 use Rattle.atlite.specs.Term.{first_word, Name, plain, two_way, Op, Shape, exactly, on_field, calling, sending, shape}
 use Rattle.atlite.specs.Keywords.{Keywords, src_word, print_kind, let_word, future_word, fn_word, when_word, null_word, this_word, def_word, field_word, method_word}
 use Rattle.atlite.specs.Lexicon.{Bytes}

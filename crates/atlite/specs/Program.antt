@@ -2,9 +2,9 @@
 -- left in the end is listed. Assumes nothing.
 --
 -- Document 01, "Listing and worked examples". A listing that is too long is refused like a text that does not fit a buffer.
-use Rattle.std.specs.Prelude.{ℕ, [], ◌∷◌, ◌++◌, length, eqb, leb}
+use Rattle.std.specs.Prelude.{ℕ, [], ◌∷◌, ◌++◌, length, eqb, leb, if◌then◌else◌}
 use Rattle.std.proofs.Math.Option.{Option, none, some}
-use Rattle.atlite.specs.Base.{Result, done, refused, ◌>>=◌, ◌>>◌, require, bytes, if◌then◌else◌}
+use Rattle.atlite.specs.Base.{Result, done, refused, ◌>>=◌, ◌>>◌, require, bytes}
 use Rattle.atlite.specs.Lexicon.{Bytes, newline}
 use Rattle.atlite.specs.State.{State}
 use Rattle.atlite.specs.Load.{load}

@@ -4,9 +4,9 @@
 -- takes a value off the front of a text and hands on what is left. The readers of forms are given the reader of their expressions, so that
 -- only two need fuel: `read_expr`, one for each bracket that it goes into, and `read_lines`, one for each line. A text's length and one more
 -- is enough for both (`script-exact` of crate `reading`).
-use Rattle.std.specs.Prelude.{ℕ, zero, suc, ◌+◌, ◌-◌, max, true, false, List, [], ◌∷◌, length, eqb}
+use Rattle.std.specs.Prelude.{ℕ, zero, suc, ◌+◌, ◌-◌, max, true, false, List, [], ◌∷◌, length, eqb, if◌then◌else◌}
 use Rattle.std.proofs.Math.Option.{Option, none, some}
-use Rattle.atlite.specs.Base.{Result, done, refused, ◌>>=◌, ◌>>◌, or_refuse, require, if◌then◌else◌, bytes, same_bytes}
+use Rattle.atlite.specs.Base.{Result, done, refused, ◌>>=◌, ◌>>◌, or_refuse, require, bytes, same_bytes}
 use Rattle.atlite.specs.Term.{this, Shape, exactly, on_field, calling, sending}
 use Rattle.atlite.specs.Lexicon.{Bytes, open', close, space, newline, in_word, is_word, decimal, is_number, dictionary, number_of}
 use Rattle.atlite.specs.Keywords.{null_word, this_word, Operator, bare, naming, let_in, future, fn, when, literal, spelling}

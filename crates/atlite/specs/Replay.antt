@@ -4,9 +4,9 @@
 --
 -- A line of calls is a number of tokens with one space between each two, or empty. A token of digits is one call for each digit, the move of
 -- that actor; digits from 4 to 9 name no actor and are calls all the same. The line is judged before anything else is looked at.
-use Rattle.std.specs.Prelude.{ℕ, List, [], ◌∷◌, ◌++◌, eqb}
+use Rattle.std.specs.Prelude.{ℕ, List, [], ◌∷◌, ◌++◌, eqb, if◌then◌else◌}
 use Rattle.std.proofs.Math.Option.{Option, none, some}
-use Rattle.atlite.specs.Base.{Result, done, refused, ◌>>=◌, bytes, if◌then◌else◌}
+use Rattle.atlite.specs.Base.{Result, done, refused, ◌>>=◌, bytes}
 use Rattle.atlite.specs.Lexicon.{Bytes, space, newline, is_digit}
 use Rattle.atlite.specs.Printer.{print_number, print_items}
 use Rattle.atlite.specs.State.{State}

@@ -1,10 +1,10 @@
 -- No call is refused with a number that is no cause, whatever it is lent: a returned 0 says that it was done, and no number is above 16.
 -- Shown by going through the definitions once, line by line. Assumes nothing.
-use Rattle.std.specs.Prelude.{ℕ, zero, suc, ◌+◌, ◌*◌, ◌/◌, ◌≡◌, refl, Bool, ◌&&◌, not, List, [], ◌∷◌, ◌++◌, length, eqb, leb}
+use Rattle.std.specs.Prelude.{ℕ, zero, suc, ◌+◌, ◌*◌, ◌/◌, ◌≡◌, refl, Bool, ◌&&◌, not, List, [], ◌∷◌, ◌++◌, length, eqb, leb, if◌then◌else◌}
 use Rattle.std.proofs.Math.Bool.{true, false}
 use Rattle.std.proofs.Math.Option.{Option, none, some}
 use Rattle.std.proofs.Math.ListN.{get_elem?}
-use Rattle.atlite.specs.Base.{Result, done, refused, ◌>>=◌, ◌>>◌, or_refuse, require, if◌then◌else◌}
+use Rattle.atlite.specs.Base.{Result, done, refused, ◌>>=◌, ◌>>◌, or_refuse, require}
 use Rattle.atlite.specs.Term.{made, Series, Value, null, num, ref, Name, plain, two_way, resolve, register, Kind, isolate, actor, Op, plus, percent, choose, get, set, call, send, Term, val, var, op, let_in, literal, Terms, nil, cons, Inits, Methods, no_method, method, values_of, is_value, same_signature}
 use Rattle.atlite.specs.State.{Message, message, Entity, object, future, resolver, Actor, State, with_inbox, field_of}
 use Rattle.atlite.specs.Outcome.{Copy, entity, own_entity, names_future}
@@ -38,7 +38,6 @@ module _ {B : Type 0} where
   tested n false h k = stopped h
 
   pub either : (b : Bool) {r s : Result B} → Caused r → Caused s → Caused (if b then r else s)
-  unfolding if◌then◌else◌
   either true h k = h
   either false h k = k
 

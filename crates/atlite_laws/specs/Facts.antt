@@ -1,12 +1,12 @@
 -- Facts about the tests, lists and results of `Base` that laws everywhere use. Nothing here has to be believed. Assumes nothing.
-use Rattle.std.specs.Prelude.{◌≡◌, Bool, ◌&&◌, ◌||◌, not, List, [], ◌∷◌, ◌++◌, ℕ, zero, suc, ◌≤◌, ◌<◌, length, get_or, eqb}
+use Rattle.std.specs.Prelude.{◌≡◌, Bool, ◌&&◌, ◌||◌, not, List, [], ◌∷◌, ◌++◌, ℕ, zero, suc, ◌≤◌, ◌<◌, length, get_or, eqb, if◌then◌else◌}
 use Rattle.std.proofs.Math.Path.{refl}
 use Rattle.std.proofs.Common.{sym, ap, ap₂, ◌∙◌, subst as transp, arith, eqb-true, eq-eqb}
 use Rattle.std.proofs.Math.Bool.{true, false}
 use Rattle.std.proofs.lemmas.Bool.{false≢true}
 use Rattle.std.proofs.Math.Option.{Option, none, some}
 use Rattle.std.proofs.Math.ListN.{get_elem?}
-use Rattle.atlite.specs.Base.{Result, done, refused, ◌>>=◌, ◌>>◌, or_refuse, require, if◌then◌else◌, all, same_bytes}
+use Rattle.atlite.specs.Base.{Result, done, refused, ◌>>=◌, ◌>>◌, or_refuse, require, all, same_bytes}
 
 -- ---- tests joined
 pub and₂ : (a b : Bool) → (a && b) ≡ true → (a ≡ true) × (b ≡ true)
@@ -141,7 +141,6 @@ module _ {B : Type 0} {Q : B → Type 0} where
   every-found n (some a) k = k a refl
 
   pub every-if : (b : Bool) {r u : Result B} → (b ≡ true → Every Q r) → (b ≡ false → Every Q u) → Every Q (if b then r else u)
-  unfolding if◌then◌else◌
   every-if true h k = h refl
   every-if false h k = k refl
 

@@ -1,10 +1,10 @@
 -- Request P3, one name with several counts: what the look-up of a method finds. It is the method that has the name and as many parameters as there are
 -- arguments, wherever it stands in the list, and 12 where none has both. A message that is taken, two-way or not, becomes the call that has
 -- the message's own arguments. Assumes nothing.
-use Rattle.std.specs.Prelude.{ℕ, ◌≡◌, refl, Bool, true, false, not, List, [], ◌∷◌, ◌++◌, length, eqb}
+use Rattle.std.specs.Prelude.{ℕ, ◌≡◌, refl, Bool, true, false, not, List, [], ◌∷◌, ◌++◌, length, eqb, if◌then◌else◌}
 use Rattle.std.proofs.Common.{sym, ap, ap₂, ◌∙◌, eqb-true}
 use Rattle.std.proofs.lemmas.Bool.{false≢true}
-use Rattle.atlite.specs.Base.{done, refused, any, distinct_by, if◌then◌else◌}
+use Rattle.atlite.specs.Base.{done, refused, any, distinct_by}
 use Rattle.atlite_laws.specs.Facts.{and₂, both₂, not-true, eqb_same}
 use Rattle.atlite.specs.Term.{this, Value, null, plain, two_way, call, Term, val, op, Methods, no_method, method, Signature, same_signature, signatures, values, value_of, values_of}
 use Rattle.atlite.specs.Subst.{subst, subst_params}
@@ -32,13 +32,12 @@ pub data Stands (k : ℕ) (xs : List ℕ) (e : Term) : Methods → Type 0 where
   later : {j : ℕ} {ys : List ℕ} {d : Term} {M : Methods} → Stands k xs e M → Stands k xs e (method j ys d M)
 
 or_later : (b : Bool) {c : Bool} → c ≡ true → (if b then true else c) ≡ true
-unfolding if◌then◌else◌
 or_later true h = refl
 or_later false h = h
 
 -- so the list has its signature,
 stands-known : {k : ℕ} {xs : List ℕ} {e : Term} {M : Methods} → Stands k xs e M → knows M (k, length xs) ≡ true
-unfolding any signatures if◌then◌else◌
+unfolding any signatures
 stands-known {k} {xs} first = rw (same_signature_lem (k, length xs)) refl
 stands-known {k} {xs} (later {j} {ys} s) = or_later (same_signature (k, length xs) (j, length ys)) (stands-known s)
 
@@ -50,7 +49,7 @@ pub record Found (M : Methods) (m n : ℕ) : Type 0 where
   pub count : length params ≡ n
 
 pub known-stands : (M : Methods) (m n : ℕ) → knows M (m, n) ≡ true → Found M m n
-unfolding any signatures if◌then◌else◌
+unfolding any signatures
 known-stands no_method m n h = absurd (false≢true h)
 known-stands (method k xs e M) m n h = go (known-stands M m n) (same_signature (m, n) (k, length xs)) refl h
   where
@@ -69,7 +68,7 @@ known-stands (method k xs e M) m n h = go (known-stands M m n) (same_signature (
 -- If no two methods have one signature, the one with the name and the count is found.
 pub invoke-found : {k : ℕ} {xs : List ℕ} {e : Term} (M : Methods) (v : Value) (vs : List Value) → distinct_by same_signature (signatures M) ≡ true
     → Stands k xs e M → length xs ≡ length vs → invoke M k v vs ≡ done (subst this (val v) (subst_params xs vs e))
-unfolding invoke signatures distinct_by if◌then◌else◌
+unfolding invoke signatures distinct_by
 invoke-found {k} {xs} {e} no_method v vs d x l = elim x [ ]
 invoke-found {k} {xs} {e} (method _ _ _ M) v vs d first l = rw (sym l, same_signature_lem (k, length xs)) refl
 invoke-found {k} {xs} {e} (method j ys b M) v vs d (later s) l =
@@ -85,7 +84,7 @@ invoke-found {k} {xs} {e} (method j ys b M) v vs d (later s) l =
 
 -- If none has both, the call is refused with 12.
 pub invoke-none : (M : Methods) (m : ℕ) (v : Value) (vs : List Value) → knows M (m, length vs) ≡ false → invoke M m v vs ≡ refused 12
-unfolding invoke any signatures if◌then◌else◌
+unfolding invoke any signatures
 invoke-none no_method m v vs h = refl
 invoke-none (method k xs e M) m v vs h = go (same_signature (k, length xs) (m, length vs)) refl (same_signature (m, length vs) (k, length xs)) refl h (invoke-none M m v vs)
   where

@@ -1,13 +1,13 @@
 -- A move, a run and their calls by any rule for the redex: by the present rule they are the present ones. So a request can state what they were
 -- before it. Where a rule makes the present moves in every state of a kind, and moves stay in that kind, it makes the present runs and calls.
 -- Assumes nothing.
-use Rattle.std.specs.Prelude.{ℕ, ◌≡◌}
+use Rattle.std.specs.Prelude.{ℕ, ◌≡◌, if◌then◌else◌}
 use Rattle.std.proofs.Math.Path.{refl, ap}
 use Rattle.std.proofs.Common.{◌∙◌}
 use mathlib.Core.List.{List, [], ◌∷◌}
 use Rattle.std.proofs.Math.Option.{Option, none, some}
 use Rattle.std.proofs.Math.ListN.{get_elem?}
-use Rattle.atlite.specs.Base.{Result, done, refused, ◌>>=◌, or_refuse, if◌then◌else◌}
+use Rattle.atlite.specs.Base.{Result, done, refused, ◌>>=◌, or_refuse}
 use Rattle.atlite.specs.Term.{Name, Op, Shape, exactly, on_field, calling, sending, Term, val, var, op, let_in, future, literal, Terms, is_value, values_of}
 use Rattle.atlite.specs.State.{Actor, State}
 use Rattle.atlite.specs.Redex.{redex}

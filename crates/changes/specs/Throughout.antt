@@ -1,10 +1,10 @@
 -- Terms of which something holds however deep: Q of each operator, L of the signatures of each literal's methods. The redex has it too, and no
 -- substitution and no term that a rule or an abbreviation forms loses it, where Q and L allow what those bring in. A request states by it which
 -- terms it left as they were. Assumes nothing.
-use Rattle.std.specs.Prelude.{ℕ, eqb}
+use Rattle.std.specs.Prelude.{ℕ, eqb, if◌then◌else◌}
 use mathlib.Core.List.{List, [], ◌∷◌}
 use Rattle.std.proofs.Math.ListN.{length}
-use Rattle.atlite.specs.Base.{member, if◌then◌else◌}
+use Rattle.atlite.specs.Base.{member}
 use Rattle.atlite_laws.specs.Facts.{Every, holds, nothing, every-if}
 use Rattle.atlite.specs.Term.{this, ·t, ·r, ·x, Value, null, Name, plain, two_way, resolve, register, Op, set, call, send, Term, val, var, op, let_in, future, literal, Terms, nil, cons, Inits, no_field, field, Methods, no_method, method, two, Signature, same_signature, signatures, values, is_value}
 use Rattle.atlite.specs.Subst.{subst, subst_all, subst_inits, subst_methods, subst_params, enters}
@@ -163,7 +163,7 @@ module _ (Q : Op Name → Type 0) (L : List Signature → Type 0) where
     function-throughout z x e hz h = (hz, (tt, (K.function _, (subst-throughout this (var ·t) e tt h, tt))))
 
     pub resolving-throughout : (z e d : Term) → Throughout z → Throughout e → Throughout d → Throughout (resolving_with z e d)
-    unfolding resolving_with function_with closure subst if◌then◌else◌
+    unfolding resolving_with function_with closure subst
     resolving-throughout z e d hz he hd =
         (he, (function-throughout z ·x (op (send resolve) (two (var ·r) (var ·x))) hz (K.sends _, (tt, (tt, tt))), (K.sends _, (hd, (tt, tt)))))
 

@@ -1,9 +1,9 @@
 -- Two results of which the second goes where the first does: for rules written with `do`. Assumes nothing.
-use Rattle.std.specs.Prelude.{◌≡◌, Bool, ℕ}
+use Rattle.std.specs.Prelude.{◌≡◌, Bool, ℕ, if◌then◌else◌}
 use Rattle.std.proofs.Math.Path.{refl}
 use Rattle.std.proofs.Math.Bool.{true, false}
 use Rattle.std.proofs.lemmas.Bool.{false≢true}
-use Rattle.atlite.specs.Base.{Result, done, refused, ◌>>=◌, ◌>>◌, require, if◌then◌else◌}
+use Rattle.atlite.specs.Base.{Result, done, refused, ◌>>=◌, ◌>>◌, require}
 
 -- where the first is a value, the second is one in the relation R to it; nothing is said where the first is refused
 pub data Follows {A : Type 0} (R : A → A → Type 0) : Result A → Result A → Type 0 where
@@ -40,6 +40,5 @@ module _ {B : Type 0} {Q : B → B → Type 0} where
   require-bind n false b' h k = refuses
 
   pub follows_if : (b : Bool) {r r' u u' : Result B} → Follows Q r r' → Follows Q u u' → Follows Q (if b then r else u) (if b then r' else u')
-  unfolding if◌then◌else◌
   follows_if true h k = h
   follows_if false h k = k

@@ -1,12 +1,12 @@
 -- That variables are bound in the trees of a script, under levels that stand for the words in scope, is that they are in the script. By
 -- induction on the script. Assumes nothing.
-use Rattle.std.specs.Prelude.{ℕ, suc, ◌+◌, ◌*◌, ◌/◌, ◌%◌, ◌≤◌, ◌<◌, ◌≡◌, refl, Bool, true, false, cond, ◌&&◌, eqb, ltb, length, get_or}
+use Rattle.std.specs.Prelude.{ℕ, suc, ◌+◌, ◌*◌, ◌/◌, ◌%◌, ◌≤◌, ◌<◌, ◌≡◌, refl, Bool, true, false, cond, ◌&&◌, eqb, ltb, length, get_or, if◌then◌else◌}
 use Rattle.std.proofs.Common.{sym, ap, ◌∙◌, ne_eqb}
 use Rattle.std.proofs.Math.Path.{subst}
 use Rattle.std.proofs.Math.Bool.{and-true, and_assoc}
 use mathlib.Core.List.{List, [], ◌∷◌, ◌++◌}
 use native.Mathlib.Omega.{arith}
-use Rattle.atlite.specs.Base.{if◌then◌else◌, member, any}
+use Rattle.atlite.specs.Base.{member, any}
 use Rattle.atlite.specs.Term.{Kind, seen}
 use Rattle.atlite.specs.Scope.{bound, bound_all, bound_fields, bound_methods}
 use Rattle.atlite.specs.Table.{Grammatical, GrammaticalAll, GrammaticalFields, GrammaticalMethods}
@@ -36,7 +36,7 @@ unfolding binds
 binds-wide k p h = rw (kind-wide k p h, payload-wide k p h)
 
 sees-var : (x b l : ℕ) (L xs : List ℕ) → x < wide_limit → Levels L b l xs → sees (wide 6 x) b L ≡ member x (0 ∷ xs)
-unfolding sees any if◌then◌else◌
+unfolding sees any
 sees-var x b l L xs h v =
     let i : 6 < wide_kinds = omega arith in
     let m : x % wide_limit ≡ x = omega arith in

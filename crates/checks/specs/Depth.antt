@@ -1,10 +1,9 @@
 -- One byte of a text after another, for its depth: what the two functions of a byte promise, and that the loop over the bytes comes to
 -- the definition. Invariant: the depth from the bytes not yet read on is the depth of the text. Assumes nothing.
-use Rattle.std.specs.Prelude.{ℕ, ◌+◌, ◌-◌, ◌≤◌, ◌<◌, max, ◌≡◌, refl, List, eqb, length, get_or, drop}
+use Rattle.std.specs.Prelude.{ℕ, ◌+◌, ◌-◌, ◌≤◌, ◌<◌, max, ◌≡◌, refl, List, eqb, length, get_or, drop, if◌then◌else◌}
 use Rattle.std.proofs.Common.{sym, ap, ◌∙◌, add-one, rules, drop_of_length-le, drop-cons}
 use native.Mathlib.Omega.{arith}
 use borrow.Author.Tests.{eq-eqb, ne_eqb}
-use Rattle.atlite.specs.Base.{if◌then◌else◌}
 use Rattle.atlite.specs.Reader.{depth_from, depth}
 
 unfoldable pub opened_by : ℕ → ℕ → ℕ
@@ -22,31 +21,31 @@ pub record Most (b n m r : ℕ) : Type 0 where
 
 module _ (b n : ℕ) where
   pub opened-open : b ≡ 40 → Opened b n (n + 1)
-  unfolding opened_by if◌then◌else◌
+  unfolding opened_by
   opened-open e = record { is = rw (eq-eqb b 40 e); within = omega arith }
 
   pub opened-none : (b ≡ 40 → ⊥) → b ≡ 41 → n ≡ 0 → Opened b n 0
-  unfolding opened_by if◌then◌else◌
+  unfolding opened_by
   opened-none h e z = record { is = rw (ne_eqb b 40 h, eq-eqb b 41 e) (omega arith); within = omega arith }
 
   pub opened-close : (b ≡ 40 → ⊥) → b ≡ 41 → (n ≡ 0 → ⊥) → Opened b n (n - 1)
-  unfolding opened_by if◌then◌else◌
+  unfolding opened_by
   opened-close h e z = record { is = rw (ne_eqb b 40 h, eq-eqb b 41 e); within = omega arith }
 
   pub opened-other : (b ≡ 40 → ⊥) → (b ≡ 41 → ⊥) → Opened b n n
-  unfolding opened_by if◌then◌else◌
+  unfolding opened_by
   opened-other h e = record { is = rw (ne_eqb b 40 h, ne_eqb b 41 e); within = omega arith }
 
   pub most-more : (m : ℕ) → b ≡ 40 → m ≤ n → Most b n m (n + 1)
-  unfolding most_by if◌then◌else◌
+  unfolding most_by
   most-more m e h = record { is = rw (eq-eqb b 40 e) (omega arith) }
 
   pub most-same : (m : ℕ) → b ≡ 40 → n < m → Most b n m m
-  unfolding most_by if◌then◌else◌
+  unfolding most_by
   most-same m e h = record { is = rw (eq-eqb b 40 e) (omega arith) }
 
   pub most_other : (m : ℕ) → (b ≡ 40 → ⊥) → Most b n m m
-  unfolding most_by if◌then◌else◌
+  unfolding most_by
   most_other m h = record { is = rw (ne_eqb b 40 h) }
 
 -- what is left to compute is what was asked

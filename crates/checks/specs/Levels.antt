@@ -1,11 +1,11 @@
 -- The list of levels stands for the words in scope: a name but `this` is one of them just where its level is above the base, and no level
 -- is above the present one. Binding names puts them in front; a new base leaves none. Assumes nothing.
-use Rattle.std.specs.Prelude.{ℕ, suc, ◌+◌, ◌*◌, ◌/◌, ◌%◌, ◌≤◌, ◌<◌, ◌≡◌, refl, Bool, true, false, List, [], ◌∷◌, ◌++◌, eqb, ltb, length, get_or, set, replicate}
+use Rattle.std.specs.Prelude.{ℕ, suc, ◌+◌, ◌*◌, ◌/◌, ◌%◌, ◌≤◌, ◌<◌, ◌≡◌, refl, Bool, true, false, List, [], ◌∷◌, ◌++◌, eqb, ltb, length, get_or, set, replicate, if◌then◌else◌}
 use Rattle.std.proofs.Common.{ap, ◌∙◌, ne_eqb, lt-ltb, le-ltb, eqb-true, length-set, get_or-set_same, get_or-set_other}
 use native.Mathlib.Omega.{arith}
 use Rattle.std.proofs.lemmas.Bool.{eqb-false}
 use Rattle.std.proofs.lemmas.List.{length-replicate}
-use Rattle.atlite.specs.Base.{if◌then◌else◌, member, any}
+use Rattle.atlite.specs.Base.{member, any}
 use Rattle.layout_laws.specs.PackLaws.{Each}
 use Rattle.words.specs.Wide.{pair, wide_params, wide_limit, wide_third}
 use Rattle.checks.specs.Names.{Name}
@@ -39,7 +39,7 @@ hidden L b l xs h = record { long = h.long; under = omega arith; low = h.low; ri
 
 -- ---- one name
 pub bound-one : (L : List ℕ) (b l : ℕ) (xs : List ℕ) (y v : ℕ) → y < wide_limit → b < v → l ≤ v → Levels L b l xs → Levels (set L y v) b v (y ∷ xs)
-unfolding any if◌then◌else◌
+unfolding any
 bound-one L b l xs y v hy hb hl h = record {
   long = length-set L y v ∙ h.long;
   under = omega arith;
@@ -79,7 +79,7 @@ module _ (L : List ℕ) (b l : ℕ) (xs : List ℕ) (x y z : ℕ) (hx : x < wide
 
 -- the names that a word binds
 pub bound_all_lem : (w : ℕ) (ys : List ℕ) (L : List ℕ) (b l : ℕ) (xs : List ℕ) → w ≤ 4000 → length ys ≤ 3 → Each (Name w) ys → Levels L b l xs → Levels (bind_all L (wide_params ys) (l + 1)) b (l + 1) (ys ++ xs)
-unfolding wide_params any if◌then◌else◌
+unfolding wide_params any
 bound_all_lem w [] L b l xs k n a h =
     same-scope _ b (l + 1) (0 ∷ 0 ∷ 0 ∷ xs) xs (three L b l xs 0 0 0 (omega arith) (omega arith) (omega arith) h) (λ u p. rw (ne_eqb u 0 (λ e. omega arith)))
 bound_all_lem w (x ∷ []) L b l xs k n a h =

@@ -1,8 +1,8 @@
 -- A header's signature kept in a number, and whether the parameters in one differ. By cases on how many there are. Assumes nothing.
-use Rattle.std.specs.Prelude.{ℕ, ◌+◌, ◌*◌, ◌/◌, ◌%◌, ◌≤◌, ◌<◌, ◌≡◌, refl, Bool, true, false, cond, ◌&&◌, List, [], ◌∷◌, eqb, length}
+use Rattle.std.specs.Prelude.{ℕ, ◌+◌, ◌*◌, ◌/◌, ◌%◌, ◌≤◌, ◌<◌, ◌≡◌, refl, Bool, true, false, cond, ◌&&◌, List, [], ◌∷◌, eqb, length, if◌then◌else◌}
 use Rattle.std.proofs.Common.{sym, ap, ◌∙◌, arith, ne_eqb, le-ltb}
 use Rattle.std.proofs.Math.Bool.{and-true}
-use Rattle.atlite.specs.Base.{if◌then◌else◌, distinct, any, distinct_by}
+use Rattle.atlite.specs.Base.{distinct, any, distinct_by}
 use Rattle.layout.specs.Numbers.{field_kind}
 use Rattle.layout_laws.specs.PackLaws.{Each}
 use Rattle.layout_laws.specs.LastThree.{not-if, kept, kept-noted}

@@ -1,9 +1,9 @@
 -- The state that words are. Assumes nothing; nothing here need be believed but `state_of`, and that by its law alone
 -- (`state-of-iff` of `StateLaws`, crate `layout_laws`).
 -- Reading is total: what words that are no state give does not matter, since `state_of` compares the words of what was read.
-use Rattle.std.specs.Prelude.{ℕ, zero, suc, ◌+◌, ◌*◌, ◌/◌, ◌%◌, ◌&&◌, List, [], ◌∷◌, take, drop, get_or, eqb}
+use Rattle.std.specs.Prelude.{ℕ, zero, suc, ◌+◌, ◌*◌, ◌/◌, ◌%◌, ◌&&◌, List, [], ◌∷◌, take, drop, get_or, eqb, if◌then◌else◌}
 use Rattle.std.proofs.Math.Option.{Option, none, some}
-use Rattle.atlite.specs.Base.{same_bytes, if◌then◌else◌}
+use Rattle.atlite.specs.Base.{same_bytes}
 use Rattle.atlite.specs.Term.{Value, null, num, ref, Term}
 use Rattle.atlite.specs.State.{Message, message, Field, field, Tag, shared, isolated, Entity, object, future, resolver, Actor, State}
 use Rattle.decoding.specs.ValidTest.{is_state}

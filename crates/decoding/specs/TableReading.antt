@@ -1,9 +1,9 @@
 -- The table that words are. Assumes nothing; nothing here need be believed but `table_of`, and that by its law alone
 -- (`table-of-iff` of `TableLaws`, crate `layout_laws`).
 -- There is no second test of what a table is: the text of what was read is read again, and the words of that are compared.
-use Rattle.std.specs.Prelude.{ℕ, suc, ◌-◌, ◌/◌, ◌%◌, cond, List, [], ◌∷◌, map, drop, get_or, ltb}
+use Rattle.std.specs.Prelude.{ℕ, suc, ◌-◌, ◌/◌, ◌%◌, cond, List, [], ◌∷◌, map, drop, get_or, ltb, if◌then◌else◌}
 use Rattle.std.proofs.Math.Option.{Option, none, some}
-use Rattle.atlite.specs.Base.{Result, done, refused, same_bytes, if◌then◌else◌}
+use Rattle.atlite.specs.Base.{Result, done, refused, same_bytes}
 use Rattle.atlite.specs.Term.{call, send, Kind}
 use Rattle.atlite.specs.Keywords.{operators}
 use Rattle.atlite.specs.Table.{text_of, Table, read}

@@ -1,5 +1,5 @@
 -- One entry: its twelve bytes, their number, and why the test of an entry answers so. Assumes nothing.
-use Rattle.std.specs.Prelude.{◌≡◌, Bool, ◌&&◌, [], ◌∷◌, ◌++◌, eqb, get_or, set, replicate}
+use Rattle.std.specs.Prelude.{◌≡◌, Bool, ◌&&◌, [], ◌∷◌, ◌++◌, eqb, get_or, set, replicate, if◌then◌else◌}
 use Rattle.std.proofs.Math.Path.{refl, sym, ap}
 use Rattle.std.proofs.Common.{ap₂, ◌∙◌, eq-eqb, ne_eqb, eqb-true, Fits, drop_of_length-le, drop-cons}
 use Rattle.std.proofs.Math.Bool.{true, false}
@@ -12,7 +12,7 @@ use Rattle.std.specs.Int.{w32}
 use Rattle.std.proofs.Math.ListN.{length, drop, take-append-drop, length-drop}
 use Rattle.std.proofs.lemmas.List.Edits.{sets}
 use Rattle.std.proofs.Math.Seq.{slice, length-slice}
-use Rattle.atlite.specs.Base.{bytes, same_bytes, all, if◌then◌else◌}
+use Rattle.atlite.specs.Base.{bytes, same_bytes, all}
 use Rattle.atlite.specs.Lexicon.{Bytes, is_letter, is_digit, in_word, is_word}
 use Rattle.atlite_laws.specs.Facts.{same_true, same_refl, same-false-sym}
 use Rattle.atlite.specs.Reader.{item}
@@ -76,7 +76,7 @@ number-zeros (b ∷ w) k = rw (number-zeros w k)
 
 -- bytes are their word, and zeros behind it
 spelled-front : (t : Bytes) → AreBytes t → (k : ℕ) × (t ≡ spelled t ++ zeros k)
-unfolding AreBytes spelled bytes_in bytes_number if◌then◌else◌ zeros
+unfolding AreBytes spelled bytes_in bytes_number zeros
 spelled-front [] h = (0, refl)
 spelled-front (b ∷ t) h = go (eqb (b + 256 * bytes_number t) 0) refl (spelled-front t h.1)
   where
@@ -97,7 +97,7 @@ spelled-front (b ∷ t) h = go (eqb (b + 256 * bytes_number t) 0) refl (spelled-
     )
 
 bytes-number : (k n : ℕ) → n < 256 ^ k → bytes_number (bytes_in k n) ≡ n
-unfolding bytes_in bytes_number if◌then◌else◌
+unfolding bytes_in bytes_number
 bytes-number zero n h = let z : n < 1 = rw (pow-zero 256) at h in omega arith
 bytes-number (suc k) n h =
     let l : n < 256 * 256 ^ k = rw (pow-succ' 256 k) at h in

@@ -1,6 +1,6 @@
 -- The line that an input begins with, and what the loop that looks for its end has to show: the bytes passed stand before the line that is
 -- left. Assumes nothing.
-use Rattle.std.specs.Prelude.{ℕ, ◌+◌, ◌-◌, ◌≤◌, ◌<◌, ◌≡◌, refl, get_or}
+use Rattle.std.specs.Prelude.{ℕ, ◌+◌, ◌-◌, ◌≤◌, ◌<◌, ◌≡◌, refl, get_or, if◌then◌else◌}
 use Rattle.std.proofs.Common.{sym, ◌∙◌, arith, add-one, rules, eq-eqb, ne_eqb, le-leb, length-append, length-drop, drop-cons, take_all, length-take-le}
 use Rattle.std.proofs.Math.Path.{ap}
 use mathlib.Core.List.{List, [], ◌∷◌, ◌++◌, append_assoc, append-nil}
@@ -8,7 +8,6 @@ use Rattle.std.proofs.Math.Option.{Option, none, some}
 use Rattle.std.proofs.lemmas.Bool.{lt-leb}
 use Rattle.std.proofs.Math.ListN.{length, take, drop, length-take}
 use Rattle.std.proofs.Math.Seq.{drop-length, take-suc}
-use Rattle.atlite.specs.Base.{if◌then◌else◌}
 use Rattle.atlite.specs.Program.{Input, longer, split, short}
 use Rattle.input_line.specs.declared.Line.{Line}
 use Rattle.input_line.specs.declared.Line.TheVariants.{Ends, Unended}
@@ -68,16 +67,16 @@ pub first_byte : (w : List ℕ) (i : ℕ) → i < length w → drop i w ≡ get_
 first_byte w i h = rw (add-one, drop-cons w i 0)
 
 split-end : (b : ℕ) (w : List ℕ) → b ≡ 10 → split (b ∷ w) ≡ some (record { line = []; script = w })
-unfolding split if◌then◌else◌
+unfolding split
 split-end b w e = rw (eq-eqb b 10 e, split)
 
 split-more : (b : ℕ) (w : List ℕ) → (b ≡ 10 → ⊥) → split (b ∷ w) ≡ longer b (split w)
-unfolding split if◌then◌else◌
+unfolding split
 split-more b w n = rw (ne_eqb b 10 n, split)
 
 -- a line that is too long is none
 short-long : (v : List ℕ) (o : Option Input) → longest < length v → short (after v o) ≡ none
-unfolding short after if◌then◌else◌
+unfolding short after
 short-long v none h = refl
 short-long v (some i) h = rw (lt-leb (length (v ++ i.line)) longest (omega (arith, length-append v i.line)))
 
@@ -92,7 +91,7 @@ module _ (w : List ℕ) (i : ℕ) (g : Looking w i) where
 
   module _ (h : i < length w) where
     pub look-ends : get_or w i 0 ≡ 10 → LineOf w (Ends i)
-    unfolding LineOf after short if◌then◌else◌
+    unfolding LineOf after short
     look-ends e =
         let s : split w ≡ some (record { line = take i w; script = drop (i + 1) w }) = g.left ∙ rw (first_byte w i h, split-end (get_or w i 0) (drop (i + 1) w) e, append-nil (take i w)) in
         record {

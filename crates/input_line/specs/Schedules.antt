@@ -1,12 +1,11 @@
 -- `loops`: the schedule line. What the loop that reads it has to show: the entries so far stand before the line that is left. Assumes nothing.
-use Rattle.std.specs.Prelude.{ℕ, ◌+◌, ◌-◌, ◌≤◌, ◌<◌, ◌≡◌, get_or, set}
+use Rattle.std.specs.Prelude.{ℕ, ◌+◌, ◌-◌, ◌≤◌, ◌<◌, ◌≡◌, get_or, set, if◌then◌else◌}
 use Rattle.std.proofs.Common.{ap, ◌∙◌, arith, rules}
 use mathlib.Core.List.{List, [], ◌∷◌}
 use Rattle.std.proofs.Math.Option.{none}
 use borrow.Author.Tests.{le-leb, lt-leb}
 use Rattle.std.proofs.Math.ListN.{length, drop}
 use Rattle.std.proofs.Math.Seq.{drop-length}
-use Rattle.atlite.specs.Base.{if◌then◌else◌}
 use Rattle.atlite.specs.Loops.{entry, schedule}
 use Rattle.input_line.specs.declared.Entries.TheVariants.{Read, Bad}
 use Rattle.input_line.specs.Limits.{longest}
@@ -25,15 +24,15 @@ schedule-starts l xs h z = record { passed = omega arith; short = h; read = read
 -- the first byte
 module _ (b : ℕ) (l : List ℕ) where
   schedule-low : b < 48 → schedule (b ∷ l) ≡ none
-  unfolding schedule if◌then◌else◌
+  unfolding schedule
   schedule-low h = rw (lt-leb 48 b h, schedule)
 
   schedule-high : 48 ≤ b → 51 < b → schedule (b ∷ l) ≡ none
-  unfolding schedule if◌then◌else◌
+  unfolding schedule
   schedule-high h k = rw (le-leb 48 b h, lt-leb b 51 k, schedule)
 
   schedule-more : 48 ≤ b → b ≤ 51 → schedule (b ∷ l) ≡ entry b (schedule l)
-  unfolding schedule if◌then◌else◌
+  unfolding schedule
   schedule-more h k = rw (le-leb 48 b h, le-leb b 51 k, schedule)
 
 module _ (l xs : List ℕ) (i : ℕ) (g : Scheduling l xs i) where

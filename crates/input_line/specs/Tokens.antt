@@ -1,7 +1,7 @@
 -- `replay`: the line of calls. What the loop that reads it has to show: behind a digit the line may end, go on with a digit, or have one
 -- space with a digit behind it. Assumes nothing.
 use Prim.Native.Nat.{ℕ, zero, suc, ◌+◌, ◌-◌, ◌≤◌, ◌<◌}
-use Rattle.std.specs.Prelude.{◌≡◌, Bool, get_or, set, eqb}
+use Rattle.std.specs.Prelude.{◌≡◌, Bool, get_or, set, eqb, if◌then◌else◌}
 use Rattle.std.proofs.Math.Path.{refl, ap}
 use Rattle.std.proofs.Common.{sym, ◌∙◌, add-one, rules}
 use Rattle.std.proofs.Math.Bool.{true, false}
@@ -11,7 +11,6 @@ use native.Mathlib.Omega.{arith}
 use borrow.Author.Tests.{eq-eqb, ne_eqb, le-leb, lt-leb}
 use Rattle.std.proofs.Math.ListN.{length, drop}
 use Rattle.std.proofs.Math.Seq.{drop-length}
-use Rattle.atlite.specs.Base.{if◌then◌else◌}
 use Rattle.atlite.specs.Lexicon.{Bytes, is_digit}
 use Rattle.atlite.specs.Loops.{entry}
 use Rattle.atlite.specs.Replay.{before, between, tokens, digit_calls, token, calls}
@@ -33,11 +32,11 @@ left (suc i) l = opened (between (drop (suc i) l))
 -- ---- the first byte
 module _ (b : ℕ) (l : Bytes) where
   at-space : b ≡ 32 → between (b ∷ l) ≡ [] ∷ between l
-  unfolding between if◌then◌else◌
+  unfolding between
   at-space e = rw (eq-eqb b 32 e, between)
 
   at_other : (b ≡ 32 → ⊥) → between (b ∷ l) ≡ before b (between l)
-  unfolding between if◌then◌else◌
+  unfolding between
   at_other n = rw (ne_eqb b 32 n, between)
 
 module _ (b : ℕ) where
@@ -51,18 +50,18 @@ module _ (b : ℕ) where
   opened-before (t ∷ ts) = refl
 
   digit-before : is_digit b ≡ true → (ts : List Bytes) → calls (before b ts) ≡ entry b (opened ts)
-  unfolding opened before calls token digit_calls if◌then◌else◌
+  unfolding opened before calls token digit_calls
   digit-before e [] = rw e
   digit-before e (t ∷ ts) = rw e
 
   other-before : is_digit b ≡ false → (ts : List Bytes) → calls (before b ts) ≡ none
-  unfolding before calls token digit_calls if◌then◌else◌
+  unfolding before calls token digit_calls
   other-before e [] = rw e
   other-before e (t ∷ ts) = rw e
 
   -- a token begins with a digit
   none_other : is_digit b ≡ false → (l : Bytes) → calls (between (b ∷ l)) ≡ none
-  unfolding between calls token if◌then◌else◌
+  unfolding between calls token
   none_other e l = go (eqb b 32)
     where
       go : (c : Bool) → calls (if c then [] ∷ between l else before b (between l)) ≡ none

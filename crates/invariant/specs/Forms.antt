@@ -1,10 +1,10 @@
 -- The forms that an expansion brings in are well formed: what is said of them serves the rule of take, which brings in a resolve,
 -- and loading, which brings in all. Assumes nothing.
-use Rattle.std.specs.Prelude.{◌≡◌, List, [], ◌∷◌, ℕ, ◌+◌, ◌<◌}
+use Rattle.std.specs.Prelude.{◌≡◌, List, [], ◌∷◌, ℕ, ◌+◌, ◌<◌, if◌then◌else◌}
 use Rattle.std.proofs.Math.Path.{refl}
 use Rattle.std.proofs.Math.Bool.{true}
 use Rattle.std.proofs.Common.{arith, lt-ltb}
-use Rattle.atlite.specs.Base.{member, all, if◌then◌else◌, any, distinct_by}
+use Rattle.atlite.specs.Base.{member, all, any, distinct_by}
 use Rattle.atlite.specs.Term.{this, ·t, ·r, ·l, ·x, apply, Value, plain, resolve, send, Term, var, op, two, count_terms, init_names, signatures, seen}
 use Rattle.atlite.specs.Subst.{subst}
 use Rattle.atlite_laws.specs.Closures.{closure, function_with, resolving_with}
@@ -40,7 +40,7 @@ module _ (w : ℕ) (P : Value → Type 0) where
   -- what stands for `this` around a function is bound as .t, and the body is an object's method
   pub function-wf : (zs : List ℕ) (z : Term) (x : ℕ) (e : Term) → is_variable w x ≡ true → WellFormed z w P zs
       → WellFormed e w P (x ∷ this ∷ ·t ∷ zs) → WellFormed (function_with z x e) w P zs
-  unfolding function_with closure seen init_names signatures any if◌then◌else◌
+  unfolding function_with closure seen init_names signatures any
   function-wf zs z x e hx hz h =
       let vs = x ∷ this ∷ ·t ∷ zs in
       let u : member ·t vs ≡ true = sub-skip x (this ∷ ·t ∷ zs) ·t refl in
@@ -48,7 +48,7 @@ module _ (w : ℕ) (P : Value → Type 0) where
 
   pub resolving-wf : (zs : List ℕ) (z e d : Term) → WellFormed z w P (·r ∷ zs) → WellFormed e w P zs → WellFormed d w P (·l ∷ ·r ∷ zs)
       → WellFormed (resolving_with z e d) w P zs
-  unfolding resolving_with function_with closure subst sendable count_terms any if◌then◌else◌
+  unfolding resolving_with function_with closure subst sendable count_terms any
   resolving-wf zs z e d hz h k =
       let b = function-wf (·r ∷ zs) z ·x (op (send resolve) (two (var ·r) (var ·x))) (hidden w ·x (omega arith) (omega arith)) hz (refl, (refl, (refl, tt))) in
       (hidden w ·r (omega arith) (omega arith), h, (hidden w ·l (omega arith) (omega arith), b, (refl, (k, (refl, tt)))))

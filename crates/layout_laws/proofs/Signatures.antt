@@ -1,12 +1,12 @@
 -- Two signatures as numbers are equal exactly if the signatures are, so that code compares one number where the definitions compare two.
 -- Assumes nothing.
-use Rattle.std.specs.Prelude.{ℕ, ◌+◌, ◌*◌, ◌%◌, ◌/◌, ◌<◌, ◌≤◌, ◌≡◌, Bool, false, ◌&&◌, eqb, length}
+use Rattle.std.specs.Prelude.{ℕ, ◌+◌, ◌*◌, ◌%◌, ◌/◌, ◌<◌, ◌≤◌, ◌≡◌, Bool, false, ◌&&◌, eqb, length, if◌then◌else◌}
 use Rattle.std.proofs.Math.Path.{refl, ap₂}
 use Rattle.std.proofs.Common.{sym, ap, ◌∙◌, arith, eqb-true, eq-eqb}
 use Rattle.std.proofs.Math.Bool.{true, not}
 use mathlib.Core.List.{List, [], ◌∷◌, map}
 use Rattle.std.proofs.lemmas.Bool.{eqb-false}
-use Rattle.atlite.specs.Base.{any, distinct_by, distinct, if◌then◌else◌}
+use Rattle.atlite.specs.Base.{any, distinct_by, distinct}
 use Rattle.atlite.specs.Term.{Signature, same_signature}
 use Rattle.layout.specs.Numbers.{name_limit, tagged_limit, places_limit}
 use Rattle.layout.specs.Pack.{places}

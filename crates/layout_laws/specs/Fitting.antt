@@ -1,11 +1,11 @@
 -- What is well formed fits its bits: at most 64 words make names below 127, and lists keep the text's limits. By induction on the
 -- term. Assumes nothing.
-use Rattle.std.specs.Prelude.{ℕ, zero, suc, ◌+◌, ◌≤◌, ◌<◌, ◌≡◌, refl, Bool, true, false, not, List, [], ◌∷◌, ◌++◌, length, eqb, leb, ltb}
+use Rattle.std.specs.Prelude.{ℕ, zero, suc, ◌+◌, ◌≤◌, ◌<◌, ◌≡◌, refl, Bool, true, false, not, List, [], ◌∷◌, ◌++◌, length, eqb, leb, ltb, if◌then◌else◌}
 use Rattle.std.proofs.Common.{ap}
 use Rattle.std.proofs.lemmas.Bool.{false≢true}
 use native.Mathlib.Omega.{arith}
 use borrow.Author.Tests.{ltb-true, leb-true, eqb-true}
-use Rattle.atlite.specs.Base.{member, all, if◌then◌else◌, any}
+use Rattle.atlite.specs.Base.{member, all, any}
 use Rattle.atlite.specs.Term.{this, apply, first_word, Value, null, num, ref, Name, plain, two_way, resolve, register, Shape, exactly, on_field, calling, sending, shape, Kind, Term, val, var, op, let_in, future, literal, Terms, nil, cons, Inits, no_field, Methods, no_method, method, count_terms, init_names, Signature, same_signature, signatures, seen, top}
 use Rattle.atlite.specs.Valid.{is_name, is_variable, sendable, callable, shapely, operable, unreferring, few_distinct, fields_named, methods_named, parameters}
 use Rattle.decoding.specs.ValidTest.{held, well_formed, well_formed_all, well_formed_inits, well_formed_methods}
@@ -71,7 +71,6 @@ abbrev pub Known : List ℕ → Type 0
 Known xs = Each NameFits xs
 
 known-or : (x y : ℕ) (r : Bool) (b : Bool) → eqb x y ≡ b → NameFits y → (r ≡ true → NameFits x) → (if b then true else r) ≡ true → NameFits x
-unfolding if◌then◌else◌
 known-or x y r true e k f h = let q = eqb-true x y e in omega arith
 known-or x y r false e k f h = f h
 

@@ -1,13 +1,13 @@
 -- Numbers kept in one: each below B, the last one lowest, and 0 where there is none. A list of fields or methods has at most four, so that code
 -- keeps three and compares the next with those: whether the names or signatures of a list differ is told without a search. Assumes nothing.
 use Prim.Native.Nat.{ℕ, zero, suc, ◌+◌, ◌*◌, ◌/◌, ◌%◌, ◌≤◌, ◌<◌}
-use Rattle.std.specs.Prelude.{◌≡◌, refl, Bool, true, false, cond, not, ◌&&◌, eqb, length}
+use Rattle.std.specs.Prelude.{◌≡◌, refl, Bool, true, false, cond, not, ◌&&◌, eqb, length, if◌then◌else◌}
 use Rattle.std.proofs.Common.{sym, ◌∙◌, mod-eq_of_lt, arith}
 use Rattle.std.proofs.Math.Path.{ap}
 use mathlib.Core.List.{List, [], ◌∷◌}
 use Rattle.std.proofs.Math.Nat.{mul-le-mul_left, mul-add, div-eq_of_lt}
 use borrow.Author.Tests.{eq-eqb, ne_eqb, eqb-true, eqb-false}
-use Rattle.atlite.specs.Base.{any, member, distinct_by, distinct, if◌then◌else◌}
+use Rattle.atlite.specs.Base.{any, member, distinct_by, distinct}
 use Rattle.layout_laws.specs.PackLaws.{Each, pack-low, pack-high}
 
 -- ---- one after another
@@ -21,7 +21,6 @@ disjoint ns [] = true
 disjoint ns (x ∷ xs) = not (member x ns) && disjoint ns xs
 
 pub not-if : (b r : Bool) → not (if b then true else r) ≡ cond b false (not r)
-unfolding if◌then◌else◌
 not-if true r = refl
 not-if false r = refl
 

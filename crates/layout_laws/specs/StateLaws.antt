@@ -1,8 +1,8 @@
 -- A state has one layout of 16,384 words, and words are the layout of at most one state. Assumes nothing.
-use Rattle.std.specs.Prelude.{ℕ, ◌≡◌, refl, Bool, true, false, ◌&&◌, List, ◌↔◌, length}
+use Rattle.std.specs.Prelude.{ℕ, ◌≡◌, refl, Bool, true, false, ◌&&◌, List, ◌↔◌, length, if◌then◌else◌}
 use Rattle.std.proofs.Common.{sym, ap, ◌∙◌, subst as transp}
 use Rattle.std.proofs.Math.Option.{none, some}
-use Rattle.atlite.specs.Base.{same_bytes, if◌then◌else◌}
+use Rattle.atlite.specs.Base.{same_bytes}
 use Rattle.atlite.specs.State.{State}
 use Rattle.decoding.specs.ValidTest.{is_state}
 use Rattle.atlite_laws.specs.Facts.{none-some, same_true, same_refl}
@@ -25,11 +25,11 @@ encode_injective σ τ h k e = sym (decode-encode σ h) ∙ ap decode e ∙ deco
 
 -- the words of a state are that state, and no other words are
 pub state-of : (σ : State) → IsState σ → state_of (encode σ) ≡ some σ
-unfolding state_of if◌then◌else◌
+unfolding state_of
 state-of σ h = rw (decode-encode σ h, (is_state_lem σ).1 h, same_refl (encode σ))
 
 pub of-state : (w : List ℕ) (σ : State) → state_of w ≡ some σ → IsState σ × (encode σ ≡ w)
-unfolding state_of if◌then◌else◌
+unfolding state_of
 of-state w σ e = go (is_state (decode w)) (same_bytes (encode (decode w)) w) refl refl e
   where
     go : (b c : Bool) → is_state (decode w) ≡ b → same_bytes (encode (decode w)) w ≡ c → (if b && c then some (decode w) else none) ≡ some σ → IsState σ × (encode σ ≡ w)

@@ -1,11 +1,10 @@
 -- A state's words are 16,384 and are read back, if it fits. Assumes nothing.
-use Rattle.std.specs.Prelude.{ℕ, zero, suc, ◌+◌, ◌-◌, ◌*◌, ◌≤◌, ◌<◌, ◌/◌, ◌%◌, ◌≡◌, refl, List, [], ◌∷◌, ◌++◌, length, drop}
+use Rattle.std.specs.Prelude.{ℕ, zero, suc, ◌+◌, ◌-◌, ◌*◌, ◌≤◌, ◌<◌, ◌/◌, ◌%◌, ◌≡◌, refl, List, [], ◌∷◌, ◌++◌, length, drop, if◌then◌else◌}
 use Rattle.std.proofs.Math.Path.{ap}
 use Rattle.std.proofs.Common.{ap₂, ◌∙◌, ne_eqb}
 use Rattle.std.proofs.Math.Nat.{mod-add-div}
 use native.Mathlib.Omega.{arith}
 use Rattle.std.proofs.Math.ListN.{get_or, length-append}
-use Rattle.atlite.specs.Base.{if◌then◌else◌}
 use Rattle.atlite.specs.State.{Actor, State}
 use Rattle.layout.specs.Numbers.{part_size, head_size, parts_size, tail_size, state_words}
 use Rattle.layout.specs.Pack.{zeros, pad, flat}
@@ -20,7 +19,7 @@ abbrev pub ByteFits : ℕ → Type 0
 ByteFits b = (1 ≤ b) × (b < 256)
 
 pub bytes_back : (k : ℕ) (bs : List ℕ) → length bs ≤ k → Each ByteFits bs → bytes_in k (bytes_number bs) ≡ bs
-unfolding bytes_in bytes_number if◌then◌else◌
+unfolding bytes_in bytes_number
 bytes_back zero [] l h = refl
 bytes_back zero (b ∷ bs) l h = absurd (omega arith)
 bytes_back (suc k) [] l h = refl

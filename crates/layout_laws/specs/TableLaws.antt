@@ -1,12 +1,12 @@
 -- A table has one layout of 1,280 words, and words are the layout of at most one table. Assumes nothing.
 -- Which words are a table is asked by reading what they print, so that the laws here rest on the reader being exact (`read-exact`).
-use Rattle.std.specs.Prelude.{ℕ, ◌-◌, ◌≤◌, ◌≡◌, refl, Bool, true, false, List, ◌∷◌, ◌++◌, map, ◌↔◌, length, drop}
+use Rattle.std.specs.Prelude.{ℕ, ◌-◌, ◌≤◌, ◌≡◌, refl, Bool, true, false, List, ◌∷◌, ◌++◌, map, ◌↔◌, length, drop, if◌then◌else◌}
 use Rattle.std.proofs.Common.{sym, ap₂, ◌∙◌, subst as transp, append-nil}
 use Rattle.std.proofs.Math.Path.{ap}
 use Rattle.std.proofs.Math.Option.{none, some}
 use native.Mathlib.Omega.{arith}
 use Rattle.std.proofs.Math.ListN.{get_or, length-append}
-use Rattle.atlite.specs.Base.{Result, done, refused, same_bytes, if◌then◌else◌}
+use Rattle.atlite.specs.Base.{Result, done, refused, same_bytes}
 use Rattle.atlite.specs.Keywords.{operators}
 use Rattle.atlite.specs.Table.{text_of, IsTable, Table, read}
 use Rattle.atlite.specs.Lexicon.{Bytes}
@@ -81,11 +81,11 @@ encode-table-injective T U h k e = sym (decode-encode-table T h) ∙ ap decode_t
 
 -- ---- which words are a table
 pub table-of : (T : Table) → IsTable T → table_of (encode_table T) ≡ some T
-unfolding table_of same_table if◌then◌else◌
+unfolding table_of same_table
 table-of T h = rw (decode-encode-table T h, (read-exact (text_of T) T).1 (h, refl), same_refl (encode_table T))
 
 pub of-table : (w : List ℕ) (T : Table) → table_of w ≡ some T → IsTable T × (encode_table T ≡ w)
-unfolding table_of same_table if◌then◌else◌
+unfolding table_of same_table
 of-table w T e = go (read operators t) refl e
   where
     t : Bytes

@@ -1,11 +1,11 @@
 -- Atoms: one word each, in its place. Assumes nothing.
-use Rattle.std.specs.Prelude.{◌≡◌, Bool, true, false, List, [], ◌∷◌, ℕ, ◌+◌, ◌≤◌, ◌<◌, length, drop, set}
+use Rattle.std.specs.Prelude.{◌≡◌, Bool, true, false, List, [], ◌∷◌, ℕ, ◌+◌, ◌≤◌, ◌<◌, length, drop, set, if◌then◌else◌}
 use Rattle.std.proofs.Math.Path.{refl}
 use Rattle.std.proofs.Common.{sym, ◌∙◌, arith, rules}
 use Rattle.std.proofs.lemmas.Bool.{false≢true}
 use Rattle.std.proofs.Math.Option.{Option, none, some}
 use Rattle.std.proofs.Math.Seq.{slice, slice_empty, length-slice}
-use Rattle.atlite.specs.Base.{Base, Result, done, refused, require, or_refuse, ◌>>=◌, ◌>>◌, bytes, same_bytes, all, if◌then◌else◌}
+use Rattle.atlite.specs.Base.{Base, Result, done, refused, require, or_refuse, ◌>>=◌, ◌>>◌, bytes, same_bytes, all}
 use Rattle.atlite.specs.Lexicon.{Bytes, is_digit, is_word, letter_first, is_number, decimal, number_of, dictionary}
 use Rattle.atlite.specs.Script.{Src}
 use Rattle.atlite.specs.Reader.{item, atom, read_atom, read_word}
@@ -47,7 +47,7 @@ as_var c = done (Src.var c.0, c.1)
 name-atom : (ws : List Bytes) (i : Bytes) → is_number (item i).0 ≡ false → same_bytes (item i).0 (110 ∷ 117 ∷ 108 ∷ 108 ∷ []) ≡ false
     → same_bytes (item i).0 (116 ∷ 104 ∷ 105 ∷ 115 ∷ []) ≡ false
     → read_atom ws i ≡ (read_word ws i >>= as_var)
-unfolding read_atom read_word atom require or_refuse bytes if◌then◌else◌
+unfolding read_atom read_word atom require or_refuse bytes
 name-atom ws i p q s = rw (p, q, s) (go (is_word (item i).0) (number_of ws (item i).0))
   where
     go : (b : Bool) (o : Option ℕ)
@@ -85,7 +85,7 @@ module _ (t : Bytes) (at o e : ℕ) (old new : List ℕ) (h : Run t at e) where
 
   pub number-atom : (d : Numbers) (a : Step) (n w : ℕ) → NumberIs (slice at e t) d → d ≡ Is n → w ≡ wide 2 n → a ≡ Done e (o + 1) → new ≡ set old o w
       → Took wide_src t at o old new (read_atom (dictionary t) (drop at t)) a
-  unfolding NumberIs atom wide_src if◌then◌else◌
+  unfolding NumberIs atom wide_src
   number-atom d a n w s q v z u =
       let k = rw q at s in
       one_word (dictionary t) (Src.num (decimal 0 (slice at e t))) w a (filled (number-filled (slice at e t) k.0))

@@ -1,5 +1,5 @@
 -- A method's header: its name and parameters, in one word. Assumes nothing.
-use Rattle.std.specs.Prelude.{◌≡◌, refl, Bool, true, false, length, drop}
+use Rattle.std.specs.Prelude.{◌≡◌, refl, Bool, true, false, length, drop, if◌then◌else◌}
 use Rattle.std.proofs.Common.{◌∙◌, rules, Fits}
 use Rattle.std.proofs.Math.Path.{subst as transp}
 use mathlib.Core.List.{List, [], ◌∷◌}
@@ -7,7 +7,7 @@ use Prim.Native.Nat.{ℕ, zero, suc, ◌+◌, ◌-◌, ◌*◌, ◌^◌, ◌≤�
 use Rattle.std.proofs.Math.Nat.{pow-zero, pow-succ', pow-le-pow_right, lt_of_lt_of_le}
 use native.Mathlib.Omega.{arith}
 use Rattle.std.specs.Int.{w64}
-use Rattle.atlite.specs.Base.{Result, done, refused, or_refuse, ◌>>=◌, ◌>>◌, if◌then◌else◌, bytes}
+use Rattle.atlite.specs.Base.{Result, done, refused, or_refuse, ◌>>=◌, ◌>>◌, bytes}
 use Rattle.atlite.specs.Lexicon.{Bytes, dictionary}
 use Rattle.atlite.specs.Reader.{Reading, spaced_word, read_word, read_items, read_params, read_names, read_head}
 use Rattle.words.specs.Wide.{wide, pair, wide_params, wide_method, wide_limit, wide_third, wide_names}

@@ -1,10 +1,10 @@
 -- A word has the number that the dictionary gives it. Assumes nothing.
-use Rattle.std.specs.Prelude.{◌≡◌, refl, Bool, true, false, List, [], ◌∷◌, ℕ, suc, ◌+◌, ◌≤◌, ◌<◌, eqb, length, drop}
+use Rattle.std.specs.Prelude.{◌≡◌, refl, Bool, true, false, List, [], ◌∷◌, ℕ, suc, ◌+◌, ◌≤◌, ◌<◌, eqb, length, drop, if◌then◌else◌}
 use Rattle.std.proofs.Common.{sym, ap, ◌∙◌, rules}
 use Rattle.std.proofs.Math.Option.{none, some}
 use native.Mathlib.Omega.{arith}
 use Rattle.std.proofs.Math.Seq.{slice, length-slice}
-use Rattle.atlite.specs.Base.{Base, Result, done, refused, require, or_refuse, ◌>>=◌, ◌>>◌, bytes, same_bytes, if◌then◌else◌}
+use Rattle.atlite.specs.Base.{Base, Result, done, refused, require, or_refuse, ◌>>=◌, ◌>>◌, bytes, same_bytes}
 use Rattle.atlite.specs.Lexicon.{Bytes, is_word, place, number_of, dictionary}
 use Rattle.atlite.specs.Reader.{eat, after, read_word, spaced, spaced_word}
 use Rattle.atlite_laws.specs.Facts.{same_true, same-false-sym}
@@ -19,7 +19,7 @@ use Rattle.lexemes.specs.Atoms.{Ready, NameRead, Named, NameOf, SpacedName}
 
 -- ---- places
 place-some : (ws : List Bytes) (w : Bytes) (n : ℕ) → index ws w < length ws → place n ws w ≡ some (index ws w + n)
-unfolding place index if◌then◌else◌
+unfolding place index
 place-some [] w n h = absurd (omega arith)
 place-some (v ∷ ws) w n h = go (same_bytes v w) h (place-some ws w (suc n))
   where
@@ -30,7 +30,7 @@ place-some (v ∷ ws) w n h = go (same_bytes v w) h (place-some ws w (suc n))
     go false k ih = ih (omega arith) ∙ ap some (omega arith)
 
 place_none : (ws : List Bytes) (w : Bytes) (n : ℕ) → index ws w ≡ length ws → place n ws w ≡ none
-unfolding place index if◌then◌else◌
+unfolding place index
 place_none [] w n h = refl
 place_none (v ∷ ws) w n h = go (same_bytes v w) h (place_none ws w (suc n))
   where
@@ -68,7 +68,7 @@ module _ (t : Bytes) (at e : ℕ) (h : Run t at e) where
     at-index = p (dictionary t) (slice at e t) s.held k lo hi
 
     pub place_found : i < count → NameOf t at (Word (i + 8) e)
-    unfolding NameOf Named number_of require or_refuse if◌then◌else◌
+    unfolding NameOf Named number_of require or_refuse
     place_found c =
         let d = s.held.counted in
         let f = s.few in
@@ -81,7 +81,7 @@ module _ (t : Bytes) (at e : ℕ) (h : Run t at e) where
         }
 
     pub place-missing : count ≤ i → NameOf t at NoWord
-    unfolding NameOf Named number_of require or_refuse if◌then◌else◌
+    unfolding NameOf Named number_of require or_refuse
     place-missing c =
         let d = s.held.counted in
         let x = at-index in
@@ -90,7 +90,7 @@ module _ (t : Bytes) (at e : ℕ) (h : Run t at e) where
 
 -- ---- behind a space
 pub eat-starts : (t : Bytes) (at b : ℕ) (r : Bool) → Starts t at (b ∷ []) r → r ≡ true → eat b (drop at t) ≡ done (drop (at + 1) t)
-unfolding Starts eat after require if◌then◌else◌
+unfolding Starts eat after require
 eat-starts t at b r s k = go (drop at t) (rw k at s).0
   where
     go : (i : Bytes) → after (b ∷ []) i ≡ some (drop (at + 1) t) → eat b i ≡ done (drop (at + 1) t)
@@ -102,7 +102,7 @@ eat-starts t at b r s k = go (drop at t) (rw k at s).0
         test false e = absurd (let z : ◌≡◌ {A = ℕ} 0 1 = cc in omega arith)
 
 pub eat-not : (t : Bytes) (at b : ℕ) (r : Bool) → Starts t at (b ∷ []) r → r ≡ false → eat b (drop at t) ≡ refused 2
-unfolding Starts eat after require if◌then◌else◌
+unfolding Starts eat after require
 eat-not t at b r s k = go (drop at t) (rw k at s)
   where
     go : (i : Bytes) → after (b ∷ []) i ≡ none → eat b i ≡ refused 2

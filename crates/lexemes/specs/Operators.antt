@@ -1,7 +1,7 @@
 -- Operators by the kinds of their words, and what the table of kinds tells of the operator of a kind: how many operands it has, and whether
 -- a name stands behind the first. Shown once for all operators: each list is compared with the other by one test that is computed.
 -- Assumes nothing.
-use Rattle.std.specs.Prelude.{◌≡◌, Bool, ◌||◌, cond, ℕ, ◌≤◌, ◌<◌}
+use Rattle.std.specs.Prelude.{◌≡◌, Bool, ◌||◌, cond, ℕ, ◌≤◌, ◌<◌, if◌then◌else◌}
 use Rattle.std.proofs.Math.Path.{refl, sym, ap}
 use Rattle.std.proofs.Common.{◌∙◌, eqb-true, eq-eqb, ne_eqb}
 use Rattle.std.proofs.Math.Bool.{true, false}
@@ -10,7 +10,7 @@ use Rattle.std.proofs.Math.Option.{Option, none, some}
 use mathlib.Core.List.{List, [], ◌∷◌, ◌++◌, map}
 use native.Mathlib.Omega.{arith}
 use Rattle.std.proofs.Math.Dec.{eqb}
-use Rattle.atlite.specs.Base.{same_bytes, all, if◌then◌else◌}
+use Rattle.atlite.specs.Base.{same_bytes, all}
 use Rattle.atlite_laws.specs.Facts.{and₂}
 use Rattle.atlite.specs.Term.{Op, written, demanded, Shape, exactly}
 use Rattle.atlite.specs.Lexicon.{Bytes}
@@ -36,7 +36,7 @@ entries os = map (λ o. (spelling o, operator_kind o)) os
 module _ (w : Bytes) where
   -- the operator that is spelled so is that of its word's kind
   spelled-kind : (os : List Operator) (vs : List (Bytes × ℕ)) → distinct (entries os ++ vs) ≡ true → spelled os w ≡ operator_of os (kind_of (entries os ++ vs) w)
-  unfolding spelled operator_of kind_of distinct if◌then◌else◌
+  unfolding spelled operator_of kind_of distinct
   spelled-kind [] vs h = refl
   spelled-kind (o ∷ os) vs h =
       let (i, j) = and₂ (absent (operator_kind o) (entries os ++ vs)) (distinct (entries os ++ vs)) h in

@@ -1,9 +1,8 @@
 -- Expansion and the substitution of `this` in one pass. What stands for `this` in a script depends on the place alone: null outside
 -- all literals, .t in the body of a fn, and `this` itself in the parts of a literal, which a substitution does not enter. So each
 -- part is expanded once, with what stands for `this` there, and nothing is substituted afterwards. Assumes nothing.
-use Rattle.std.specs.Prelude.{ℕ, ◌+◌, ◌≡◌, refl, Bool, true, false, eqb, leb, ltb}
+use Rattle.std.specs.Prelude.{ℕ, ◌+◌, ◌≡◌, refl, Bool, true, false, eqb, leb, ltb, if◌then◌else◌}
 use Rattle.std.proofs.Common.{sym, ap, ap₂, ◌∙◌, arith, ne_eqb, eqb-true, leb-true}
-use Rattle.atlite.specs.Base.{if◌then◌else◌}
 use Rattle.atlite.specs.Term.{this, ·t, ·f, ·r, ·l, apply, first_word, Value, Name, Kind, object, isolate, actor, register, Term, Terms, nil, cons, Inits, no_field, Methods, no_method, method, seq, one, two, append, call, send, written, val, var, op, let_in, literal, future}
 use Rattle.atlite.specs.Subst.{enters, subst, subst_all}
 use Rattle.atlite.specs.Script.{SrcOp, kept, ask, resolve, Src, Srcs, SrcFields, SrcMethods}
@@ -62,12 +61,10 @@ unfoldable mutual
 
 -- ---- `this` put for itself changes nothing
 same-either : {A : Type 0} (b : Bool) (x y z : A) → x ≡ z → y ≡ z → (if b then x else y) ≡ z
-unfolding if◌then◌else◌
 same-either true x y z p q = p
 same-either false x y z p q = q
 
 same-variable : (y : ℕ) → (if eqb this y then var this else var y) ≡ var y
-unfolding if◌then◌else◌
 same-variable y = go (eqb this y) refl
   where
     go : (b : Bool) → eqb this y ≡ b → (if b then var this else var y) ≡ var y
@@ -81,7 +78,7 @@ not_entered isolate = refl
 not_entered actor = refl
 
 literal-kept : (v : Term) (k : Kind) (fs : Inits) (ms : Methods) → subst this v (literal k fs ms) ≡ literal k fs ms
-unfolding subst if◌then◌else◌
+unfolding subst
 literal-kept v k fs ms = rw (not_entered k)
 
 mutual
@@ -107,16 +104,16 @@ named_other w x g =
     ne_eqb this x (λ e. omega arith)
 
 append-last : (z : Term) (es : Terms) → subst_all this z (append es (one (var ·r))) ≡ append (subst_all this z es) (one (var ·r))
-unfolding subst append if◌then◌else◌
+unfolding subst append
 append-last z nil = refl
 append-last z (cons e es) = ap (cons (subst this z e)) (append-last z es)
 
 closure-this : (z : Term) (x : ℕ) (e d : Term) → subst this (var ·t) e ≡ d → subst this z (function x e) ≡ closure z x d
-unfolding function closure subst enters if◌then◌else◌
+unfolding function closure subst enters
 closure-this z x e d h = ap (closure z x) h
 
 op-this : (o : SrcOp) (es : Terms) (s : Self) → subst this (self_term s) (expand_op o es) ≡ expand_op_with o s (subst_all this (self_term s) es)
-unfolding Expansion expand_op_with resolving_with closure subst enters if◌then◌else◌
+unfolding Expansion expand_op_with resolving_with closure subst enters
 op-this (kept o) es s = refl
 op-this (ask m) es s = rw (append-last (self_term s) es)
 op-this resolve nil s = refl
@@ -128,7 +125,7 @@ op-this SrcOp.seq (cons e (cons d es)) s = refl
 
 -- ---- `this` put into an expanded script
 mutual
-  unfolding Expansion expand_with self_term closure subst enters Grammatical if◌then◌else◌
+  unfolding Expansion expand_with self_term closure subst enters Grammatical
 
   pub expand-this : (e : Src) (w : ℕ) (s : Self) → Grammatical w e → subst this (self_term s) (expand e) ≡ expand_with e s
   expand-this (Src.num n) w s g = refl

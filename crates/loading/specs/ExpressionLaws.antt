@@ -1,12 +1,11 @@
 -- The words of a script's expression expand to the words of its expansion. By induction on the expressions of the grammar under a
 -- dictionary of at most 64 words. Assumes nothing.
-use Rattle.std.specs.Prelude.{◌≡◌, Bool, true, false, List, [], ◌∷◌, ◌++◌, eqb}
+use Rattle.std.specs.Prelude.{◌≡◌, Bool, true, false, List, [], ◌∷◌, ◌++◌, eqb, if◌then◌else◌}
 use Rattle.std.proofs.Math.Path.{refl}
 use Rattle.std.proofs.Common.{sym, ap, ◌∙◌, subst as transp, append_assoc, append-nil, ne_eqb, eqb-true}
 use Rattle.std.proofs.lemmas.Bool.{false≢true, eqb-false}
 use Prim.Native.Nat.{ℕ, suc, ◌+◌, ◌-◌, ◌*◌, ◌/◌, ◌%◌, ◌≤◌, ◌<◌}
 use native.Mathlib.Omega.{arith}
-use Rattle.atlite.specs.Base.{if◌then◌else◌}
 use Rattle.atlite.specs.Term.{this, ·t, ·f, ·r, ·l, ·s, ·x, apply, Kind, Name, plain, Op, call, send, written, Term, Terms, cons, one, two as both, seq, append, var, op, count_terms, shape}
 use Rattle.atlite.specs.Script.{SrcOp, kept, ask, resolve, Src, num, null, var, op, let_in, future, fn, when, literal, Srcs, nil, cons, SrcFields, no_field, field, SrcMethods, no_method, method, count_srcs}
 use Rattle.atlite.specs.Expansion.{asking, of_two}
@@ -45,7 +44,7 @@ self-words itself = refl
 
 -- a variable
 variable-one : (n x : ℕ) (s : Self) → 0 < n → x < name_limit → One n (self_word s) (node 6 x ∷ []) (encode_term (expand_with (var x) s))
-unfolding expand_with encode_term if◌then◌else◌ leaf_in
+unfolding expand_with encode_term leaf_in
 variable-one n x s d l = go (eqb this x) refl
   where
     go : (b : Bool) → eqb this x ≡ b → One n (self_word s) (node 6 x ∷ []) (encode_term (if b then self_term s else var x))

@@ -1,6 +1,6 @@
 -- Expressions by their first byte and their operator. The reader takes an operator's operands as a list of so many; at a known operator
 -- that computes to the parts that the functions of the descent read one after another. Assumes nothing.
-use Rattle.std.specs.Prelude.{◌≡◌, Bool, true, false, List, [], ◌∷◌, ◌++◌, eqb, drop}
+use Rattle.std.specs.Prelude.{◌≡◌, Bool, true, false, List, [], ◌∷◌, ◌++◌, eqb, drop, if◌then◌else◌}
 use Rattle.std.proofs.Math.Path.{refl}
 use Rattle.std.proofs.Common.{sym, ap, ◌∙◌, append-nil, eqb-true, ne_eqb}
 use Rattle.std.proofs.Math.Option.{Option, none, some}
@@ -9,7 +9,7 @@ use native.Mathlib.Omega.{arith}
 use Rattle.std.proofs.lemmas.Bool.{eqb-false}
 use Rattle.std.proofs.Math.ListN.{length}
 use Rattle.std.proofs.Math.Seq.{slice}
-use Rattle.atlite.specs.Base.{Base, refused, or_refuse, ◌>>=◌, if◌then◌else◌}
+use Rattle.atlite.specs.Base.{Base, refused, or_refuse, ◌>>=◌}
 use Rattle.atlite.specs.Term.{Shape, exactly, Kind, object, isolate, actor, call, send}
 use Rattle.atlite.specs.Lexicon.{Bytes, dictionary, is_number, is_word, letter_first}
 use Rattle.atlite.specs.Keywords.{Operator, naming, operators}
@@ -33,7 +33,7 @@ use Rattle.parse.specs.PartLaws.{whole}
 
 -- ---- the first byte
 open-byte : (i j : Bytes) → after (40 ∷ []) i ≡ some j → i ≡ 40 ∷ j
-unfolding after if◌then◌else◌
+unfolding after
 open-byte [] j e = absurd (let z : ◌≡◌ {A = ℕ} 0 1 = cc in omega arith)
 open-byte (c ∷ i) j e = go (eqb 40 c) refl e
   where
@@ -42,7 +42,7 @@ open-byte (c ∷ i) j e = go (eqb 40 c) refl e
     go false p q = absurd (let z : ◌≡◌ {A = ℕ} 0 1 = cc in omega arith)
 
 not-open : (n : ℕ) (ws : List Bytes) (i : Bytes) → after (40 ∷ []) i ≡ none → read_expr operators (suc n) ws i ≡ read_atom ws i
-unfolding after if◌then◌else◌ read_expr read_atom atom item is_number is_word letter_first Base
+unfolding after read_expr read_atom atom item is_number is_word letter_first Base
 not-open n ws [] e = refl
 not-open n ws (c ∷ i) e = go (eqb 40 c) refl e
   where

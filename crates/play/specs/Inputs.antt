@@ -1,10 +1,10 @@
 -- A program may stop reading at 8,194 bytes: the longest input that is not refused has 8,193, a line of 4,096 bytes, its end and a script of
 -- 4,096 bytes, and what is longer is refused for what stands in front. One law of the line and the script serves both programs. Assumes nothing.
-use Rattle.std.specs.Prelude.{ℕ, zero, suc, ◌+◌, ◌-◌, ◌≤◌, ◌<◌, ◌≡◌, refl, Bool, true, false, List, [], ◌∷◌, length, take, eqb, leb, ltb}
+use Rattle.std.specs.Prelude.{ℕ, zero, suc, ◌+◌, ◌-◌, ◌≤◌, ◌<◌, ◌≡◌, refl, Bool, true, false, List, [], ◌∷◌, length, take, eqb, leb, ltb, if◌then◌else◌}
 use Rattle.std.proofs.Common.{sym, ap, ◌∙◌, arith, lt-ltb, le-ltb, ltb-true, ltb-false, leb-true, leb-false, length-take, take_all}
 use Rattle.std.proofs.Math.Option.{Option, none, some}
 use Rattle.std.proofs.lemmas.Bool.{lt-leb}
-use Rattle.atlite.specs.Base.{Result, refused, ◌>>=◌, or_refuse, require, if◌then◌else◌}
+use Rattle.atlite.specs.Base.{Result, refused, ◌>>=◌, or_refuse, require}
 use Rattle.atlite.specs.Lexicon.{Bytes, newline}
 use Rattle.atlite.specs.Table.{read}
 use Rattle.atlite.specs.Run.{run}
@@ -38,7 +38,7 @@ cut-longer b k (some i) = go (ltb (length i.line) k) refl
 
 -- the first byte is kept
 split_step : (b : ℕ) (w : List ℕ) (k : ℕ) → split (take k w) ≡ cut k (split w) → split (b ∷ take k w) ≡ cut (suc k) (split (b ∷ w))
-unfolding split cut shorter if◌then◌else◌
+unfolding split cut shorter
 split_step b w k h = go (eqb b newline)
   where
     first : List ℕ → Bool → Option Input
@@ -83,7 +83,7 @@ started-kept i h = go (leb (length i.script) script_most) refl
         started-long (take k i.script) (omega (arith, length-take k i.script)) ∙ sym (started-long i.script l)
 
 cut-alike : (o : Option Input) → Alike (short (cut input_room o)) (short o)
-unfolding cut shorter short if◌then◌else◌
+unfolding cut shorter short
 cut-alike none = neither
 cut-alike (some i) = go (leb (length i.line) longest) refl
   where

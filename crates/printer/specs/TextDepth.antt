@@ -1,6 +1,6 @@
 -- The depth of a text is the nesting of what it prints. A text that closes all its brackets leaves as many open as there were, and
 -- raises the most that were open. By induction on the expressions of the grammar under the dictionary ws. Assumes nothing.
-use Rattle.std.specs.Prelude.{◌≡◌, Bool, ◌||◌, ltb, length}
+use Rattle.std.specs.Prelude.{◌≡◌, Bool, ◌||◌, ltb, length, if◌then◌else◌}
 use Rattle.std.proofs.Math.Path.{refl, ap, subst as transp}
 use Rattle.std.proofs.Common.{sym, ap₂, ◌∙◌, ne_eqb, eqb-true}
 use Rattle.std.proofs.Math.Bool.{true, false}
@@ -9,7 +9,7 @@ use mathlib.Core.List.{List, [], ◌∷◌, ◌++◌, append_assoc, append-nil, 
 use Prim.Native.Nat.{ℕ, zero, suc, ◌+◌, ◌-◌, ◌/◌, ◌%◌, ◌≤◌, max}
 use native.Mathlib.Omega.{arith}
 use Rattle.std.proofs.Math.Dec.{eqb}
-use Rattle.atlite.specs.Base.{Base, bytes, all, if◌then◌else◌}
+use Rattle.atlite.specs.Base.{Base, bytes, all}
 use Rattle.atlite.specs.Term.{this, Kind}
 use Rattle.atlite.specs.Lexicon.{Bytes, in_word, is_letter, is_digit}
 use Rattle.atlite.specs.Valid.{is_name, words_hold}
@@ -43,7 +43,7 @@ pass-two {s} {u} {a} {b} p q = record {
 }
 
 pass-byte : (b : ℕ) → (b ≡ 40 → ⊥) → (b ≡ 41 → ⊥) → Passes (b ∷ []) 0
-unfolding depth_from if◌then◌else◌
+unfolding depth_from
 pass-byte b o c = record {
   run = λ n m i h.
       let p : (if eqb b 40 then n + 1 else if eqb b 41 then n - 1 else n) ≡ n = rw (ne_eqb b 40 o, ne_eqb b 41 c) in
@@ -52,7 +52,7 @@ pass-byte b o c = record {
 }
 
 pass-brackets : {s : Bytes} {d : ℕ} → Passes s d → Passes (40 ∷ (s ++ (41 ∷ []))) (suc d)
-unfolding depth_from if◌then◌else◌
+unfolding depth_from
 pass-brackets {s} {d} p = record {
   run = λ n m i h.
       ap (λ v. depth_from (n + 1) (max m (n + 1)) v) (append_assoc s (41 ∷ []) i)

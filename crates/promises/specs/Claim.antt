@@ -3,8 +3,8 @@
 -- A list of calls is lent a list of words, whatever stands in it. Its moved entries are read off the definitions of the calls and of a
 -- move; what two lists have to agree in is read off those; and what they then end in is said of the words that are left and of the
 -- call `list`. Crate `schedule` proves it: `two-lists` of these functions, and `same_end`, `same_answer` and `same_bytes` of calls that code made.
-use Rattle.std.specs.Prelude.{ℕ, suc, List, [], ◌∷◌, ◌++◌, ◌≡◌, length, take, drop, eqb}
-use Rattle.atlite.specs.Base.{Result, done, refused, if◌then◌else◌}
+use Rattle.std.specs.Prelude.{ℕ, suc, List, [], ◌∷◌, ◌++◌, ◌≡◌, length, take, drop, eqb, if◌then◌else◌}
+use Rattle.atlite.specs.Base.{Result, done, refused}
 use Rattle.atlite.specs.State.{State}
 use Rattle.atlite.specs.Move as Moves
 use Rattle.atlite.specs.Move.{Answer, Inner, Taken, Sent, Created, AfterMove}

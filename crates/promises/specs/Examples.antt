@@ -1,8 +1,8 @@
 -- The worked example K1 through the six calls, computed, and each cause of a lent list in its place; and that each part of what two lists of
 -- calls agree in is asked for. So no law of the calls is about nothing. Assumes nothing.
-use Rattle.std.specs.Prelude.{ℕ, ◌+◌, ◌-◌, true, List, [], ◌∷◌, ◌≡◌, refl, length, replicate, get_or}
+use Rattle.std.specs.Prelude.{ℕ, ◌+◌, ◌-◌, true, List, [], ◌∷◌, ◌≡◌, refl, length, replicate, get_or, if◌then◌else◌}
 use Rattle.std.proofs.Common.{ap, arith}
-use Rattle.atlite.specs.Base.{done, refused, bytes, same_bytes, if◌then◌else◌}
+use Rattle.atlite.specs.Base.{done, refused, bytes, same_bytes}
 use Rattle.atlite.specs.Move.{Inner, Sent, Created}
 use Rattle.atlite.specs.Loops.{All}
 use Rattle.atlite.specs.Examples.{Example, row, K1, scheduled}
@@ -72,15 +72,15 @@ refused-leaves = refl
 -- ---- each part of what two lists agree in
 -- one move more
 moves-matter : Agree (event 0 Inner ∷ []) [] → ⊥
-unfolding Claim if◌then◌else◌
+unfolding Claim
 moves-matter h = let e : ◌≡◌ {A = ℕ} 1 0 = h.moves 0 in omega arith
 
 -- the same moves, and two senders to one inbox in another order
 senders-matter : Agree (event 0 (Sent 2) ∷ event 1 (Sent 2) ∷ []) (event 1 (Sent 2) ∷ event 0 (Sent 2) ∷ []) → ⊥
-unfolding Claim if◌then◌else◌
+unfolding Claim
 senders-matter h = let e : ◌≡◌ {A = ℕ} 0 1 = ap (λ l. get_or l 0 0) (h.order 2) in omega arith
 
 -- the same moves, and two creators in another order
 creators-matter : Agree (event 0 (Created 2) ∷ event 1 (Created 3) ∷ []) (event 1 (Created 2) ∷ event 0 (Created 3) ∷ []) → ⊥
-unfolding Claim if◌then◌else◌
+unfolding Claim
 creators-matter h = let e : ◌≡◌ {A = ℕ} 0 1 = ap (λ l. get_or l 0 0) h.makers in omega arith

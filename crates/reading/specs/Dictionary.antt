@@ -1,9 +1,9 @@
 -- The dictionary of any text: its words are different, none is `apply`, and each word that stands in the text by itself has a
 -- number. The invariant is on the words found so far, as the text is gone through. Assumes nothing.
-use Rattle.std.specs.Prelude.{◌≡◌, refl, Bool, true, false, ◌&&◌, not, List, [], ◌∷◌, ◌++◌, ℕ, suc, ◌≤◌, length}
+use Rattle.std.specs.Prelude.{◌≡◌, refl, Bool, true, false, ◌&&◌, not, List, [], ◌∷◌, ◌++◌, ℕ, suc, ◌≤◌, length, if◌then◌else◌}
 use Rattle.std.proofs.Common.{sym, ap, ◌∙◌, append_assoc, append-nil, arith}
 use Rattle.std.proofs.lemmas.Bool.{not-true}
-use Rattle.atlite.specs.Base.{bytes, same_bytes, if◌then◌else◌, all}
+use Rattle.atlite.specs.Base.{bytes, same_bytes, all}
 use Rattle.atlite.specs.Lexicon.{Bytes, among, is_word, in_word, noted, words_from, words_of, without_apply, dictionary}
 use Rattle.atlite.specs.Valid.{words_hold}
 use Rattle.atlite_laws.specs.Facts.{and₂, or-false, same_true, same-false-sym}
@@ -26,7 +26,7 @@ separate-last (v ∷ ws) w s h e =
     (s.0, among-last ws v w s.1 (same-false-sym v w p.0), separate-last ws w s.2 h p.1)
 
 separate-noted : (ws : List Bytes) (w : Bytes) → Separate ws → Separate (noted ws w)
-unfolding noted if◌then◌else◌
+unfolding noted
 separate-noted ws w s = go (is_word w && not (among ws w)) refl
   where
     go : (b : Bool) → (is_word w && not (among ws w)) ≡ b → Separate (if b then ws ++ (w ∷ []) else ws)
@@ -34,7 +34,7 @@ separate-noted ws w s = go (is_word w && not (among ws w)) refl
     go false e = s
 
 separate-words : (i : Bytes) (ws : List Bytes) (w : Bytes) → Separate ws → Separate (words_from ws w i)
-unfolding words_from if◌then◌else◌
+unfolding words_from
 separate-words [] ws w s = separate-noted ws w s
 separate-words (b ∷ i) ws w s =
     separate-words i (if in_word b then ws else noted ws w) (if in_word b then w ++ (b ∷ []) else []) (go (in_word b))
@@ -52,7 +52,7 @@ separate-holds (w ∷ ws) s h =
     rw (s.0, p.0, s.1) (separate-holds ws s.2 p.1)
 
 among-without : (ws : List Bytes) (v : Bytes) → among ws v ≡ false → among (without_apply ws) v ≡ false
-unfolding among without_apply if◌then◌else◌
+unfolding among without_apply
 among-without [] v h = refl
 among-without (w ∷ ws) v h = go (same_bytes w (bytes "apply")) (among-without ws v p.1)
   where
@@ -64,7 +64,7 @@ among-without (w ∷ ws) v h = go (same_bytes w (bytes "apply")) (among-without 
     go false k = rw p.0 k
 
 without-holds : (ws : List Bytes) → Separate ws → words_hold (without_apply ws) ≡ true
-unfolding Separate without_apply words_hold if◌then◌else◌
+unfolding Separate without_apply words_hold
 without-holds [] s = refl
 without-holds (w ∷ ws) s = go (same_bytes w (bytes "apply")) refl (without-holds ws s.2)
   where
@@ -78,7 +78,7 @@ unfolding dictionary words_of Separate
 dictionary-holds t = without-holds (words_of t) (separate-words t [] [] tt)
 
 without-length : (ws : List Bytes) → length (without_apply ws) ≤ length ws
-unfolding without_apply if◌then◌else◌
+unfolding without_apply
 without-length [] = omega arith
 without-length (w ∷ ws) = go (same_bytes w (bytes "apply")) (without-length ws)
   where
@@ -92,7 +92,7 @@ dictionary-length t = without-length (words_of t)
 
 words-in : (b : ℕ) (i : Bytes) (ws : List Bytes) (w : Bytes) → in_word b ≡ true
     → words_from ws w (b ∷ i) ≡ words_from ws (w ++ (b ∷ [])) i
-unfolding words_from if◌then◌else◌
+unfolding words_from
 words-in b i ws w h = rw h
 
 pub words-run : (v j : Bytes) (ws : List Bytes) (w : Bytes) → all in_word v ≡ true → words_from ws w (v ++ j) ≡ words_from ws (w ++ v) j

@@ -1,11 +1,11 @@
 -- How the text of items lies before the reader: each behind a space (32), then the closing bracket (41). With the rest of the
 -- text written after them no bracketing of `◌++◌` is left, so a reader meets the next byte by computing. Then the laws of the
 -- readers' first steps: a run of letters and digits, one byte, given bytes, an operator. Assumes nothing.
-use Rattle.std.specs.Prelude.{◌≡◌, refl, Bool, true, false, ◌&&◌, not, ◌↔◌, List, [], ◌∷◌, ◌++◌, ℕ, zero, suc, ◌+◌, ◌≤◌, ◌<◌, length, eqb, leb}
+use Rattle.std.specs.Prelude.{◌≡◌, refl, Bool, true, false, ◌&&◌, not, ◌↔◌, List, [], ◌∷◌, ◌++◌, ℕ, zero, suc, ◌+◌, ◌≤◌, ◌<◌, length, eqb, leb, if◌then◌else◌}
 use Rattle.std.proofs.Common.{sym, ap, ap₂, ◌∙◌, append_assoc, append-nil, arith, length-append, eqb-true, leb-true, eq-eqb, le-leb}
 use Rattle.std.proofs.lemmas.Bool.{false≢true}
 use Rattle.std.proofs.Math.Option.{none, some}
-use Rattle.atlite.specs.Base.{Base, if◌then◌else◌, same_bytes, all}
+use Rattle.atlite.specs.Base.{Base, same_bytes, all}
 use Rattle.atlite.specs.Lexicon.{Bytes, in_word, is_letter, is_digit, letter_first, is_word, among}
 use Rattle.atlite.specs.Term.{Term·all, plain, plus, percent, same, choose, get, set, call, send, Kind, object, isolate, actor}
 use Rattle.atlite.specs.Valid.{AllOf, is_name, callable, sendable, operable}
@@ -110,7 +110,7 @@ eat-reads b [] = nothing
 eat-reads b (c ∷ i) = checked 2 (eqb b c) (λ e. holds (ap {B = Bytes} (λ a. a ∷ i) (eqb-true b c e)))
 
 pub after-whole : (w i j : Bytes) → after w i ≡ some j → w ++ j ≡ i
-unfolding after if◌then◌else◌
+unfolding after
 after-whole [] i j h = cc
 after-whole (b ∷ w) [] j h = absurd (none-some h)
 after-whole (b ∷ w) (c ∷ i) j h = go (eqb b c) refl h (after-whole w i j)
@@ -200,7 +200,7 @@ rows =
     (row (refl, λ ws. refl, λ w n. exactly-asks true 2 n) tt)))))))))))))))))
 
 found-writes : (os : List Operator) (w : Bytes) (o : Operator) → AllOf (λ o. Writes (spelling o) o) os → spelled os w ≡ some o → Writes w o
-unfolding spelled if◌then◌else◌
+unfolding spelled
 found-writes [] w o a h = absurd (none-some h)
 found-writes (r ∷ os) w o a h = go (same_bytes (spelling r) w) refl h (found-writes os w o a.1)
   where

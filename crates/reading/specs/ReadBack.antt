@@ -1,13 +1,13 @@
 -- Words, atoms and lists as the reader takes them: printed with anything behind that ends a word, they are read back and no
 -- byte more. Assumes nothing.
-use Rattle.std.specs.Prelude.{◌≡◌, Bool, true, false, ◌||◌, length, eqb, leb}
+use Rattle.std.specs.Prelude.{◌≡◌, Bool, true, false, ◌||◌, length, eqb, leb, if◌then◌else◌}
 use Rattle.std.proofs.Math.Path.{refl, ap}
 use Rattle.std.proofs.Common.{sym, ◌∙◌, subst as transp, arith, eqb-true, leb-true, le-leb, ne_eqb}
 use Rattle.std.proofs.lemmas.Bool.{false≢true, lt-leb}
 use Rattle.std.proofs.Math.Option.{none}
 use mathlib.Core.List.{List, [], ◌∷◌, ◌++◌, map}
 use Prim.Native.Nat.{ℕ, zero, suc, ◌≤◌, ◌<◌}
-use Rattle.atlite.specs.Base.{Base, done, require, or_refuse, bytes, same_bytes, all, if◌then◌else◌}
+use Rattle.atlite.specs.Base.{Base, done, require, or_refuse, bytes, same_bytes, all}
 use Rattle.atlite.specs.Term.{this, top}
 use Rattle.atlite.specs.Lexicon.{Lexicon, Bytes, is_letter, is_digit, in_word, letter_first, is_word, is_number}
 use Rattle.atlite.specs.Script.{Src}
@@ -44,7 +44,7 @@ unfolding letter_first is_letter
 no-bracket b h = let p = and₂ (leb 97 b) (leb b 122) h in let l = leb-true 97 b p.0 in ne_eqb 41 b (omega arith)
 
 after-letter : (w j : Bytes) → letter_first w ≡ true → after (41 ∷ []) (w ++ j) ≡ none
-unfolding letter_first after if◌then◌else◌
+unfolding letter_first after
 after-letter [] j h = absurd (false≢true h)
 after-letter (b ∷ w) j h = rw (no-bracket b h)
 
@@ -104,7 +104,7 @@ module _ (ws : List Bytes) (held : words_hold ws ≡ true) where
       )
 
   num-atom : (n : ℕ) → n ≤ top → atom ws (print_number n) ≡ done (Src.num n)
-  unfolding atom if◌then◌else◌
+  unfolding atom
   num-atom n h = rw (print-number n h) (ap (λ m. done (Src.num m)) (decimal-print n h))
 
   -- an atom is read as such wherever an expression may stand, with any fuel

@@ -1,10 +1,10 @@
 -- Words and their numbers: under a dictionary of different words a name is printed as the word that is read as that name, and
 -- a word that has a number is what that number prints as. Assumes nothing.
-use Rattle.std.specs.Prelude.{◌≡◌, refl, Bool, true, false, not, List, [], ◌∷◌, ℕ, zero, suc, ◌+◌, ◌-◌, ◌≤◌, ◌<◌, length, get_or, leb, ltb}
+use Rattle.std.specs.Prelude.{◌≡◌, refl, Bool, true, false, not, List, [], ◌∷◌, ℕ, zero, suc, ◌+◌, ◌-◌, ◌≤◌, ◌<◌, length, get_or, leb, ltb, if◌then◌else◌}
 use Rattle.std.proofs.Common.{sym, ap, ◌∙◌, subst as transp, arith, leb-true, ltb-true, ltb-false, le-leb, lt-ltb, le-ltb}
 use Rattle.std.proofs.Math.Option.{some}
 use Rattle.std.proofs.lemmas.Bool.{not-true}
-use Rattle.atlite.specs.Base.{Base, bytes, same_bytes, if◌then◌else◌}
+use Rattle.atlite.specs.Base.{Base, bytes, same_bytes}
 use Rattle.atlite.specs.Term.{apply, first_word}
 use Rattle.atlite.specs.Lexicon.{Bytes, among, is_word, place, number_of, Lexicon}
 use Rattle.atlite.specs.Printer.{known, print_word}
@@ -34,7 +34,7 @@ among-at (v ∷ ws) w zero h l = (or-false (same_bytes v w) (among ws w) h).0
 among-at (v ∷ ws) w (suc k) h l = among-at ws w k (or-false (same_bytes v w) (among ws w) h).1 (omega arith)
 
 place_at : (n : ℕ) (ws : List Bytes) (k : ℕ) → words_hold ws ≡ true → k < length ws → place n ws (get_or ws k []) ≡ some (n + k)
-unfolding place if◌then◌else◌
+unfolding place
 place_at n [] k h l = absurd (omega arith)
 place_at n (w ∷ ws) zero h l = let z : n ≡ n + 0 = omega arith in rw (same_refl w) (ap some z)
 place_at n (w ∷ ws) (suc k) h l =
@@ -44,7 +44,7 @@ place_at n (w ∷ ws) (suc k) h l =
 
 place-some : (n : ℕ) (ws : List Bytes) (w : Bytes) (x : ℕ) → place n ws w ≡ some x
     → (k : ℕ) × (n + k ≡ x) × (k < length ws) × (get_or ws k [] ≡ w)
-unfolding place if◌then◌else◌
+unfolding place
 place-some n [] w x h = absurd (none-some h)
 place-some n (v ∷ ws) w x h = go (same_bytes v w) refl h (place-some (suc n) ws w x)
   where
@@ -69,14 +69,14 @@ by_name w x P h p q =
         let i = ltb-false x first_word e in let z : first_word + (x - first_word) ≡ x = omega arith in transp P z (q (x - first_word) (omega arith))
 
 print-later : (ws : List Bytes) (k : ℕ) → print_word ws (first_word + k) ≡ get_or ws k []
-unfolding print_word if◌then◌else◌
+unfolding print_word
 print-later ws k =
     let z : (first_word + k) - first_word ≡ k = omega arith in
     rw (le-ltb (first_word + k) first_word (omega arith)) (ap (λ j. get_or ws j []) z)
 
 -- A name under a dictionary: its word is one, and is read as the name.
 pub name-word : (ws : List Bytes) (x : ℕ) → words_hold ws ≡ true → is_name (length ws) x ≡ true → is_word (print_word ws x) ≡ true
-unfolding print_word known if◌then◌else◌ Base Lexicon
+unfolding print_word known Base Lexicon
 name-word ws x h n =
     by_name (length ws) x (λ y. is_word (print_word ws y) ≡ true) n refl (λ k l. rw (print-later ws k) (word_at ws k h l).0)
 

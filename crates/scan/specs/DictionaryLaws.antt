@@ -1,6 +1,6 @@
 -- The dictionary is found run by run: a run is noted as the definition notes it, and what is left of the text has the other
 -- words. Assumes nothing.
-use Rattle.std.specs.Prelude.{◌≡◌, Bool, ◌&&◌, ◌||◌, not, ℕ, suc, ◌+◌, ◌-◌, ◌≤◌, ◌<◌, ltb, leb, length, get_or, drop, set}
+use Rattle.std.specs.Prelude.{◌≡◌, Bool, ◌&&◌, ◌||◌, not, ℕ, suc, ◌+◌, ◌-◌, ◌≤◌, ◌<◌, ltb, leb, length, get_or, drop, set, if◌then◌else◌}
 use Rattle.std.proofs.Math.Path.{refl, sym, ap, subst as transp}
 use Rattle.std.proofs.Common.{◌∙◌, arith, rules, ltb-true, ltb-false, leb-true, length-set, length-append, drop_of_length-le, get_or-set_same, get_or-set_other, drop-drop}
 use Rattle.std.proofs.Math.Bool.{true, false}
@@ -8,7 +8,7 @@ use Rattle.std.proofs.lemmas.Bool.{false≢true}
 use mathlib.Core.List.{List, [], ◌∷◌, ◌++◌}
 use Rattle.std.proofs.Math.ListN.{get_or-append}
 use Rattle.std.proofs.Math.Seq.{slice, get_or-append_seam, length-slice}
-use Rattle.atlite.specs.Base.{bytes, same_bytes, all, if◌then◌else◌}
+use Rattle.atlite.specs.Base.{bytes, same_bytes, all}
 use Rattle.atlite.specs.Lexicon.{Bytes, in_word, is_word, among, noted, words_from, words_of, without_apply, dictionary, letter_first, is_letter, is_digit}
 use Rattle.atlite.specs.Keywords.{Keywords, reserved}
 use Rattle.atlite.specs.Reader.{item}
@@ -22,11 +22,11 @@ use Rattle.scan.specs.WordNumbers.{low_part, high_part, Holds, Placed, Found, No
 -- ---- the definition's steps
 module _ (ws : List Bytes) (w : Bytes) where
   noted-known : is_word w && not (among ws w) ≡ false → noted ws w ≡ ws
-  unfolding noted if◌then◌else◌
+  unfolding noted
   noted-known h = rw h
 
   noted-new : is_word w ≡ true → among ws w ≡ false → noted ws w ≡ ws ++ (w ∷ [])
-  unfolding noted if◌then◌else◌
+  unfolding noted
   noted-new h e = rw (h, e)
 
 or-none : (b : Bool) → (b || false) ≡ b
@@ -45,7 +45,7 @@ among-last (u ∷ ws) v w = go (same_bytes u v) (among-last ws v w)
 -- words other than `apply` are kept, in their order
 module _ (w : Bytes) (n : same_bytes w (bytes "apply") ≡ false) where
   among-without : (ws : List Bytes) → among (without_apply ws) w ≡ among ws w
-  unfolding among without_apply if◌then◌else◌
+  unfolding among without_apply
   among-without [] = refl
   among-without (u ∷ ws) = go (same_bytes u (bytes "apply")) refl (same_bytes u w) refl (among-without ws)
     where
@@ -56,7 +56,7 @@ module _ (w : Bytes) (n : same_bytes w (bytes "apply") ≡ false) where
       go false e b f ih = rw (f, ih)
 
   without-last : (ws : List Bytes) → without_apply (ws ++ (w ∷ [])) ≡ without_apply ws ++ (w ∷ [])
-  unfolding without_apply if◌then◌else◌
+  unfolding without_apply
   without-last [] = rw n
   without-last (u ∷ ws) = go (same_bytes u (bytes "apply")) (without-last ws)
     where
@@ -66,14 +66,14 @@ module _ (w : Bytes) (n : same_bytes w (bytes "apply") ≡ false) where
       go false ih = rw ih
 
 without-none : (ws : List Bytes) → among ws (bytes "apply") ≡ false → without_apply (ws ++ (bytes "apply" ∷ [])) ≡ without_apply ws
-unfolding among without_apply if◌then◌else◌
+unfolding among without_apply
 without-none [] h = rw (same_refl (bytes "apply"))
 without-none (u ∷ ws) h =
     let p = or-false (same_bytes u (bytes "apply")) (among ws (bytes "apply")) h in
     rw (p.0, without-none ws p.1)
 
 without-total : (ws : List Bytes) → length ws ≡ length (without_apply ws) + (if among ws (bytes "apply") then 1 else 0)
-unfolding among without_apply if◌then◌else◌
+unfolding among without_apply
 without-total [] = refl
 without-total (u ∷ ws) = go (same_bytes u (bytes "apply")) (among ws (bytes "apply")) (without-total ws)
   where
@@ -196,7 +196,7 @@ module _ (w : Bytes) (low high : List ℕ) (n : ℕ) (a : Bool) (l h i : ℕ) (u
 -- ---- the text
 -- behind a run the next byte, if there is one, ends it
 words-end : (j : Bytes) (ws : List Bytes) (w : Bytes) → Ends j → words_from ws w j ≡ words_from (noted ws w) [] (drop 1 j)
-unfolding words_from noted is_word letter_first if◌then◌else◌
+unfolding words_from noted is_word letter_first
 words-end [] ws w e = refl
 words-end (b ∷ j) ws w e = rw e
 
@@ -224,7 +224,7 @@ module _ (t : Bytes) (low high : List ℕ) where
   }
 
   pub scanned : (at n : ℕ) (a : Bool) → length t ≤ at → length t ≤ 4096 → Scanning t at low high n a → Dictionary t low high n a
-  unfolding dictionary words_from noted is_word letter_first if◌then◌else◌
+  unfolding dictionary words_from noted is_word letter_first
   scanned at n a k l s =
       let e : words_of t ≡ s.words = s.left ∙ rw (drop_of_length-le t k) in
       let m = s.found.held.counted in

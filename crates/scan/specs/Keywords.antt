@@ -1,6 +1,6 @@
 -- The reserved words and their kinds. The code compares a run with those of its own length only, and a run that is none of them has the
 -- kind 0. Assumes nothing.
-use Rattle.std.specs.Prelude.{◌≡◌, Bool, ◌&&◌, ◌||◌, get_or, take}
+use Rattle.std.specs.Prelude.{◌≡◌, Bool, ◌&&◌, ◌||◌, get_or, take, if◌then◌else◌}
 use Rattle.std.proofs.Math.Path.{refl, sym, ap}
 use Rattle.std.proofs.Common.{◌∙◌, rules, take-append-drop}
 use Rattle.std.proofs.Math.Bool.{true, false, not, cond}
@@ -14,7 +14,7 @@ use borrow.Author.Tests.{lt-leb, le-leb, eq-eqb, ne_eqb}
 use Rattle.std.proofs.Math.Dec.{eqb}
 use Rattle.std.proofs.Math.ListN.{length, drop}
 use Rattle.std.proofs.Math.Seq.{slice, slice-cons, slice_empty, length-slice, take-append_seam, take-nil}
-use Rattle.atlite.specs.Base.{Base, same_bytes, all, if◌then◌else◌}
+use Rattle.atlite.specs.Base.{Base, same_bytes, all}
 use Rattle.atlite.specs.Lexicon.{Bytes, is_letter, in_word, letter_first, among, is_word}
 use Rattle.atlite.specs.Keywords.{reserved}
 use Rattle.atlite.specs.Reader.{item, after}
@@ -44,7 +44,7 @@ same_not v w n = go (same_bytes v w) refl
     go false e = refl
 
 after-self : (w j : Bytes) → after w (w ++ j) ≡ some j
-unfolding after if◌then◌else◌
+unfolding after
 after-self [] j = refl
 after-self (b ∷ w) j = rw (eq-eqb b b refl) (after-self w j)
 
@@ -63,7 +63,7 @@ module _ (t : Bytes) (at e : ℕ) (w : Bytes) (h : (at ≤ e) × (e ≤ length t
 -- ---- places
 module _ (w : Bytes) where
   pub among_none : (vs : List Bytes) → index vs w ≡ length vs → among vs w ≡ false
-  unfolding index among if◌then◌else◌
+  unfolding index among
   among_none [] h = refl
   among_none (v ∷ vs) h = go (same_bytes v w) h (among_none vs)
     where
@@ -73,7 +73,7 @@ module _ (w : Bytes) where
       go false k ih = ih (omega arith)
 
   pub among-some : (vs : List Bytes) → index vs w < length vs → among vs w ≡ true
-  unfolding index among if◌then◌else◌
+  unfolding index among
   among-some [] h = absurd (omega arith)
   among-some (v ∷ vs) h = go (same_bytes v w) h (among-some vs)
     where
@@ -83,7 +83,7 @@ module _ (w : Bytes) where
       go false k ih = ih (omega arith)
 
   pub index-le : (vs : List Bytes) → index vs w ≤ length vs
-  unfolding index if◌then◌else◌
+  unfolding index
   index-le [] = omega arith
   index-le (v ∷ vs) = go (same_bytes v w) (index-le vs)
     where

@@ -1,6 +1,6 @@
 -- The tests of bytes, the end of a run and the comparison with given bytes answer as they should: one law for each way to
 -- return, and for each turn of a loop. Assumes nothing.
-use Rattle.std.specs.Prelude.{◌≡◌, refl, Bool, true, false, [], ◌∷◌, ◌++◌, ℕ, ◌+◌, ◌-◌, ◌≤◌, ◌<◌, eqb, leb, get_or, take, drop}
+use Rattle.std.specs.Prelude.{◌≡◌, refl, Bool, true, false, [], ◌∷◌, ◌++◌, ℕ, ◌+◌, ◌-◌, ◌≤◌, ◌<◌, eqb, leb, get_or, take, drop, if◌then◌else◌}
 use Rattle.std.proofs.Common.{sym, ap, ◌∙◌, append_assoc, append-nil, add-zero, add-one, rules, drop_of_length-le, length-take-le, take-suc, drop-cons}
 use Rattle.std.proofs.Math.Option.{none}
 use native.Mathlib.Omega.{arith}
@@ -8,7 +8,6 @@ use borrow.Author.Tests.{lt-leb, le-leb, eq-eqb, ne_eqb}
 use Rattle.std.proofs.Math.ListN.{length, length-drop}
 use Rattle.std.proofs.Math.Seq.{slice, slice_empty}
 use Rattle.std.proofs.lemmas.List.{drop-append-le}
-use Rattle.atlite.specs.Base.{if◌then◌else◌}
 use Rattle.atlite.specs.Lexicon.{Bytes, is_letter, is_digit, in_word}
 use Rattle.atlite.specs.Reader.{item, after}
 use Rattle.reading.specs.Items.{item_in, item_out}
@@ -79,7 +78,7 @@ module _ (t : Bytes) (at : ℕ) where
 
 -- ---- given bytes
 after-short : (w i : Bytes) → length i < length w → after w i ≡ none
-unfolding after if◌then◌else◌
+unfolding after
 after-short [] i h = absurd (omega arith)
 after-short (b ∷ w) [] h = refl
 after-short (b ∷ w) (c ∷ i) h = go (eqb b c) (after-short w i (omega arith))
@@ -98,7 +97,7 @@ module _ (t : Bytes) (at : ℕ) (w : Bytes) where
 
   module _ (i : ℕ) (p : Begun t at w i) where
     pub begun_more : i < length w → get_or t (at + i) 0 ≡ get_or w i 0 → Begun t at w (i + 1)
-    unfolding after if◌then◌else◌
+    unfolding after
     begun_more h e =
         let l = p.room in
         let a : at + (i + 1) ≡ at + i + 1 = omega arith in
@@ -109,7 +108,7 @@ module _ (t : Bytes) (at : ℕ) (w : Bytes) where
         }
 
     pub starts-not : i < length w → (get_or t (at + i) 0 ≡ get_or w i 0 → ⊥) → Starts t at w false
-    unfolding Starts after if◌then◌else◌
+    unfolding Starts after
     starts-not h n =
         let l = p.room in
         p.is ∙ rw (next w i h, next t (at + i) (omega arith), ne_eqb (get_or w i 0) (get_or t (at + i) 0) (λ e. n (sym e)))

@@ -1,6 +1,6 @@
 -- The numbers of words: computed from the last byte to the first, split at 2^64, and different for different words.
 -- Assumes nothing.
-use Rattle.std.specs.Prelude.{◌≡◌, refl, Bool, true, false, ◌&&◌, ◌||◌, List, [], ◌∷◌, ◌++◌, eqb, leb, take, drop}
+use Rattle.std.specs.Prelude.{◌≡◌, refl, Bool, true, false, ◌&&◌, ◌||◌, List, [], ◌∷◌, ◌++◌, eqb, leb, take, drop, if◌then◌else◌}
 use Rattle.std.proofs.Math.Path.{sym, ap}
 use Rattle.std.proofs.Common.{ap₂, ◌∙◌, add-zero, mul_assoc, add-one, rules, drop_of_length-le, take-take, drop-cons, Fits}
 use Rattle.std.proofs.Math.Bool.{false≢true}
@@ -11,7 +11,7 @@ use borrow.Author.Tests.{leb-true, eq-eqb, ne_eqb, eqb-true}
 use Rattle.std.proofs.Math.ListN.{length, get_or}
 use Rattle.std.proofs.Math.Seq.{slice, slice-cons, slice_empty, length-slice}
 use Rattle.std.specs.Int.{w64, w32}
-use Rattle.atlite.specs.Base.{same_bytes, all, if◌then◌else◌}
+use Rattle.atlite.specs.Base.{same_bytes, all}
 use Rattle.atlite.specs.Lexicon.{Bytes, is_letter, is_digit, in_word, is_word}
 use Rattle.atlite_laws.specs.Facts.{and₂, both₂, same_refl}
 use Rattle.layout.specs.Layout.{bytes_number}
@@ -169,13 +169,13 @@ all-at (w ∷ ws) (suc i) h k = all-at ws i (and₂ (is_word w) (all is_word ws)
 
 index-step : (ws : List Bytes) (w : Bytes) (i : ℕ) → i < length ws → same_bytes (get_or ws i []) w ≡ false
     → i + index (drop i ws) w ≡ i + 1 + index (drop (i + 1) ws) w
-unfolding index if◌then◌else◌
+unfolding index
 index-step ws w i h e =
     let z : index (drop i ws) w ≡ suc (index (drop (suc i) ws) w) = rw (drop-cons ws i [] h, e) in
     rw (add-one i) (omega arith)
 
 index-hit : (ws : List Bytes) (w : Bytes) (i : ℕ) → i < length ws → same_bytes (get_or ws i []) w ≡ true → i + index (drop i ws) w ≡ i
-unfolding index if◌then◌else◌
+unfolding index
 index-hit ws w i h e = rw (drop-cons ws i [] h, e) (add-zero i)
 
 module _ (low high : List ℕ) (count l h : ℕ) where

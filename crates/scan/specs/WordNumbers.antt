@@ -1,7 +1,7 @@
 -- A dictionary as two arrays: a word's bytes as one number, the first byte lowest, split at 2^64. Assumes nothing.
-use Rattle.std.specs.Prelude.{◌≡◌, Bool, true, List, [], ℕ, ◌+◌, ◌-◌, ◌*◌, ◌/◌, ◌%◌, ◌^◌, ◌≤◌, ◌<◌, length, get_or, drop}
+use Rattle.std.specs.Prelude.{◌≡◌, Bool, true, List, [], ℕ, ◌+◌, ◌-◌, ◌*◌, ◌/◌, ◌%◌, ◌^◌, ◌≤◌, ◌<◌, length, get_or, drop, if◌then◌else◌}
 use Rattle.std.proofs.Math.Seq.{slice}
-use Rattle.atlite.specs.Base.{bytes, all, if◌then◌else◌}
+use Rattle.atlite.specs.Base.{bytes, all}
 use Rattle.atlite.specs.Lexicon.{Bytes, is_word, among, noted, words_from, words_of, without_apply, dictionary}
 use Rattle.layout.specs.Layout.{bytes_number}
 use Rattle.scan.specs.Runs.{index}

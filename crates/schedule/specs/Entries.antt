@@ -1,10 +1,10 @@
 -- Two lists of entries from one state that agree in each actor's moves, each inbox's order of senders and the order of creators end
 -- in one state. An entry that moves is a free move of the machine of crate `channels`; the limits only take entries away. Assumes
 -- nothing.
-use Rattle.std.specs.Prelude.{◌≡◌, refl, Bool, true, false, cond, List, [], ◌∷◌, ◌++◌, ℕ, length, eqb}
+use Rattle.std.specs.Prelude.{◌≡◌, refl, Bool, true, false, cond, List, [], ◌∷◌, ◌++◌, ℕ, length, eqb, if◌then◌else◌}
 use Rattle.std.proofs.Common.{sym, ap, ◌∙◌, append_assoc}
 use Rattle.std.proofs.Math.Option.{Option, none, some}
-use Rattle.atlite.specs.Base.{Result, done, refused, ◌>>=◌, ◌>>◌, require, if◌then◌else◌}
+use Rattle.atlite.specs.Base.{Result, done, refused, ◌>>=◌, ◌>>◌, require}
 use Rattle.atlite.specs.State.{Actor, State}
 use Rattle.atlite.specs.Limits.{full, within_limits}
 use Rattle.atlite.specs.Outcome.{Parcel, Effect, inner, taken, sends, creates, Outcome}
@@ -73,7 +73,6 @@ alike-append end k = k
 alike-append (next h r) k = next h (alike-append r k)
 
 same-choice : {X : Type 0} (b : Bool) (x y : X) → (if b then x else y) ≡ cond b x y
-unfolding if◌then◌else◌
 same-choice true x y = refl
 same-choice false x y = refl
 

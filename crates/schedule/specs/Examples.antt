@@ -1,9 +1,9 @@
 -- The premise of `two-lists` is met by lists that differ: from one loaded script, two lists of calls with the same moves, senders and
 -- creators in which all four actors move, one of them with entries that are refused. Actor 2 compares and chooses, in one of
 -- its two methods of one name. Assumes nothing.
-use Rattle.std.specs.Prelude.{ℕ, zero, suc, ◌<◌, List, [], ◌∷◌, ◌≡◌, refl, replicate}
+use Rattle.std.specs.Prelude.{ℕ, zero, suc, ◌<◌, List, [], ◌∷◌, ◌≡◌, refl, replicate, if◌then◌else◌}
 use Rattle.std.proofs.Common.{sym, ◌∙◌, subst₂, arith, ne_eqb}
-use Rattle.atlite.specs.Base.{if◌then◌else◌, bytes}
+use Rattle.atlite.specs.Base.{bytes}
 use Rattle.atlite.specs.Loops.{All}
 use Rattle.atlite.specs.Valid.{Valid}
 use Rattle.decoding.specs.ValidTest.{ValidTest}
@@ -69,7 +69,7 @@ Below n (event a (Sent c) ∷ t) = (a < n) × (c < n) × Below n t
 Below n (event a (Created c) ∷ t) = (a < n) × Below n t
 
 no-moves : (n : ℕ) (t : List Event) → Below n t → moves_of n t ≡ 0
-unfolding moves_of if◌then◌else◌
+unfolding moves_of
 no-moves n [] h = refl
 no-moves n (event a Inner ∷ t) h = rw (ne_eqb a n (λ e. omega (arith, h.0))) (no-moves n t h.1)
 no-moves n (event a Taken ∷ t) h = rw (ne_eqb a n (λ e. omega (arith, h.0))) (no-moves n t h.1)
@@ -77,7 +77,7 @@ no-moves n (event a (Sent c) ∷ t) h = rw (ne_eqb a n (λ e. omega (arith, h.0)
 no-moves n (event a (Created c) ∷ t) h = rw (ne_eqb a n (λ e. omega (arith, h.0))) (no-moves n t h.1)
 
 no-senders : (n : ℕ) (t : List Event) → Below n t → senders n t ≡ []
-unfolding senders if◌then◌else◌
+unfolding senders
 no-senders n [] h = refl
 no-senders n (event a Inner ∷ t) h = no-senders n t h.1
 no-senders n (event a Taken ∷ t) h = no-senders n t h.1

@@ -1,9 +1,9 @@
 -- The reader after the grammar: what is known of a text when its causes 3, 4 and 5 are looked for, and what each finding then means.
 -- Assumes nothing.
-use Rattle.std.specs.Prelude.{ℕ, ◌+◌, ◌≤◌, ◌<◌, ◌≡◌, Bool, true, false, List, [], ◌∷◌, length}
+use Rattle.std.specs.Prelude.{ℕ, ◌+◌, ◌≤◌, ◌<◌, ◌≡◌, Bool, true, false, List, [], ◌∷◌, length, if◌then◌else◌}
 use Rattle.std.proofs.Common.{sym, ap, ◌∙◌, arith, rules, length-append}
 use Rattle.std.proofs.lemmas.Bool.{false≢true}
-use Rattle.atlite.specs.Base.{done, ◌>>=◌, if◌then◌else◌}
+use Rattle.atlite.specs.Base.{done, ◌>>=◌}
 use Rattle.atlite.specs.Lexicon.{dictionary}
 use Rattle.atlite.specs.Script.{Src, Line, expression, define, size, join}
 use Rattle.atlite.specs.Scope.{bound, single}
@@ -172,12 +172,10 @@ pub record Sized (t old : List ℕ) : Type 0 where
 
 -- the words of a text, by whether `apply` is one more
 pub one_more : (b : Bool) (n r : ℕ) → b ≡ true → r ≡ n + 1 → r ≡ n + (if b then 1 else 0)
-unfolding if◌then◌else◌
 one_more true n r e h = h
 one_more false n r e h = absurd (false≢true e)
 
 pub no_more : (b : Bool) (n : ℕ) → b ≡ false → n ≡ n + (if b then 1 else 0)
-unfolding if◌then◌else◌
 no_more true n e = absurd (false≢true (sym e))
 no_more false n e = omega arith
 

@@ -1,6 +1,5 @@
 // Reading a text into its table.
-ghost use Rattle.std.specs.Prelude.{◌≡◌, ◌+◌, ◌≤◌, ◌<◌};
-ghost use Rattle.atlite.specs.Base.{if◌then◌else◌};
+ghost use Rattle.std.specs.Prelude.{◌≡◌, ◌+◌, ◌≤◌, ◌<◌, if◌then◌else◌};
 ghost use Rattle.atlite.specs.Answers.{read_answer};
 ghost use Rattle.promises.specs.Meaning.{read_call};
 ghost use Rattle.script.specs.ReadContract.{Reads};

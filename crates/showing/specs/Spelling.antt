@@ -1,6 +1,6 @@
 -- The words that a dictionary spells are its script's. By induction on a word's letters, four of which stand in one machine word,
 -- and on the dictionary, three machine words for each of its own. Assumes nothing.
-use Rattle.std.specs.Prelude.{◌≡◌, Bool, true, false, ltb, length}
+use Rattle.std.specs.Prelude.{◌≡◌, Bool, true, false, ltb, length, if◌then◌else◌}
 use Rattle.std.proofs.Math.Path.{refl, ap}
 use Rattle.std.proofs.Common.{sym, ◌∙◌, subst as transp}
 use mathlib.Core.List.{List, [], ◌∷◌, ◌++◌, append_assoc, append-nil}
@@ -8,7 +8,7 @@ use Prim.Native.Nat.{ℕ, zero, suc, ◌+◌, ◌-◌, ◌*◌, ◌/◌, ◌%◌
 use native.Mathlib.Omega.{arith}
 use borrow.Author.Tests.{lt-ltb, le-ltb, ne_eqb, ltb-true, ltb-false}
 use Rattle.std.proofs.Math.ListN.{get_or, get_or-eq_default}
-use Rattle.atlite.specs.Base.{bytes, if◌then◌else◌}
+use Rattle.atlite.specs.Base.{bytes}
 use Rattle.atlite.specs.Lexicon.{Bytes}
 use Rattle.atlite.specs.Printer.{print_word, known}
 use Rattle.layout.specs.Numbers.{no_name}
@@ -121,7 +121,7 @@ pub record Spells (t : List ℕ) (ws : List Bytes) : Type 0 where
 
 module _ (t : List ℕ) (ws : List Bytes) (s : Spells t ws) where
   word-later : (k : ℕ) → k < 64 → word_in t (8 + k) ≡ print_word ws (8 + k)
-  unfolding word_in print_word if◌then◌else◌
+  unfolding word_in print_word
   word-later k l =
       let at : (i : ℕ) → i < 3 → (j : ℕ) → j ≡ 2 + (3 * k + i) → get_or t j 0 ≡ get_or (encode_word (get_or ws k [])) i 0 =
       λ i b j e. ap (λ j. get_or t j 0) e ∙ s.entries k i l b in
@@ -130,13 +130,13 @@ module _ (t : List ℕ) (ws : List Bytes) (s : Spells t ws) where
       (entry-word (get_or ws k []) (each_at ws k s.fit))
 
   word-past : (k : ℕ) → 64 ≤ k → (word_in t (8 + k) ≡ []) × (print_word ws (8 + k) ≡ [])
-  unfolding word_in print_word if◌then◌else◌
+  unfolding word_in print_word
   word-past k l =
       let z : (8 + k) - 8 ≡ k = omega arith in
       (rw (le-ltb (8 + k) 8 (omega arith), le-ltb (8 + k) 72 (omega arith)), rw (le-ltb (8 + k) 8 (omega arith), z) (get_or-eq_default ws [] (omega (arith, s.few))))
 
   word_first : (x : ℕ) → x < 8 → word_in t x ≡ print_word ws x
-  unfolding word_in print_word known_in known bytes if◌then◌else◌
+  unfolding word_in print_word known_in known bytes
   word_first zero h = refl
   word_first (suc zero) h = refl
   word_first (suc (suc zero)) h = refl

@@ -1,5 +1,5 @@
 -- The laws of the functions that test headers: one for each way to return. Assumes nothing.
-use Rattle.std.specs.Prelude.{ℕ, ◌+◌, ◌/◌, ◌%◌, ◌≤◌, ◌<◌, ◌≡◌, Bool, ◌&&◌, cond, eqb, leb}
+use Rattle.std.specs.Prelude.{ℕ, ◌+◌, ◌/◌, ◌%◌, ◌≤◌, ◌<◌, ◌≡◌, Bool, ◌&&◌, cond, eqb, leb, if◌then◌else◌}
 use Rattle.std.proofs.Math.Path.{refl, sym, ap}
 use Rattle.std.proofs.Common.{◌∙◌, rules}
 use Rattle.std.proofs.Math.Bool.{true, false, not, and-true, and-false}
@@ -8,7 +8,7 @@ use Rattle.std.proofs.Math.Option.{Option, none, some}
 use native.Mathlib.Omega.{arith}
 use borrow.Author.Tests.{lt-ltb, le-ltb, le-leb, lt-leb, eq-eqb, ne_eqb, ltb-false}
 use Rattle.std.proofs.Math.Dec.{ltb}
-use Rattle.atlite.specs.Base.{if◌then◌else◌, all, any, distinct_by}
+use Rattle.atlite.specs.Base.{all, any, distinct_by}
 use Rattle.atlite.specs.Valid.{is_name, is_variable, few_distinct, parameters}
 use Rattle.atlite_laws.specs.Facts.{and₂}
 use Rattle.layout.specs.Numbers.{payload, field_kind, method_unit, name_limit, no_name, tag_limit, tagged_limit, second_place, third_place, digit_limit}
@@ -92,7 +92,7 @@ module _ (c : ℕ) where
   one-parameter x = and-true (is_variable c x)
 
   two-parameters : (x y : ℕ) → parameters c (x ∷ y ∷ []) ≡ two c x y
-  unfolding few_distinct distinct_by any all two if◌then◌else◌
+  unfolding few_distinct distinct_by any all two
   two-parameters x y = go (is_variable c x) (is_variable c y) (eqb x y)
     where
       go : (a b e : Bool) → (not (if e then true else false) && true) && (a && (b && true)) ≡ a && b && not e
@@ -104,7 +104,7 @@ module _ (c : ℕ) where
       go false b false = refl
 
   three-parameters : (x y z : ℕ) → parameters c (x ∷ y ∷ z ∷ []) ≡ two c x y && third c x y z
-  unfolding few_distinct distinct_by any all two third if◌then◌else◌
+  unfolding few_distinct distinct_by any all two third
   three-parameters x y z = go (is_variable c x) (is_variable c y) (is_variable c z) (eqb x y) (eqb x z) (eqb y z)
     where
       go : (a b d e f g : Bool) → (not (if e then true else (if f then true else false)) && (not (if g then true else false) && true)) && (a && (b && (d && true)))

@@ -1,8 +1,8 @@
 -- Names and variables in range, and signatures that are new behind others, which stand in one number. Assumes nothing.
-use Rattle.std.specs.Prelude.{ℕ, suc, ◌+◌, ◌*◌, ◌/◌, ◌%◌, ◌≤◌, ◌<◌, ◌≡◌, refl, true, not, List, [], ◌∷◌, ltb, leb}
+use Rattle.std.specs.Prelude.{ℕ, suc, ◌+◌, ◌*◌, ◌/◌, ◌%◌, ◌≤◌, ◌<◌, ◌≡◌, refl, true, not, List, [], ◌∷◌, ltb, leb, if◌then◌else◌}
 use Rattle.std.proofs.Common.{sym, ap, ◌∙◌, arith, rules, ltb-true, leb-true}
 use Rattle.std.proofs.Math.Option.{Option, none, some}
-use Rattle.atlite.specs.Base.{if◌then◌else◌, member}
+use Rattle.atlite.specs.Base.{member}
 use Rattle.atlite.specs.Valid.{is_name, is_variable}
 use Rattle.atlite_laws.specs.Facts.{and₂}
 use Rattle.layout.specs.Numbers.{no_name, tagged_limit}

@@ -1,5 +1,5 @@
 -- Scopes as levels: the empty one, one name more, three names more and back, and what the functions over levels answer. Assumes nothing.
-use Rattle.std.specs.Prelude.{ℕ, ◌+◌, ◌/◌, ◌%◌, ◌≤◌, ◌<◌, ◌≡◌, Bool, ltb, get_or, set, replicate}
+use Rattle.std.specs.Prelude.{ℕ, ◌+◌, ◌/◌, ◌%◌, ◌≤◌, ◌<◌, ◌≡◌, Bool, ltb, get_or, set, replicate, if◌then◌else◌}
 use Rattle.std.proofs.Math.Path.{refl, sym}
 use Rattle.std.proofs.Common.{ap, ◌∙◌, rules, get_or-set_other}
 use Rattle.std.proofs.Math.Bool.{true, false}
@@ -11,7 +11,7 @@ use Rattle.std.proofs.Math.Dec.{eqb}
 use Rattle.std.proofs.Math.ListN.{length, length-set, get_or-eq_default}
 use Rattle.std.proofs.lemmas.List.{get_or-replicate}
 use Rattle.std.proofs.Math.Seq.{get_or-set_same}
-use Rattle.atlite.specs.Base.{if◌then◌else◌, member, any}
+use Rattle.atlite.specs.Base.{member, any}
 use Rattle.atlite.specs.Term.{Kind, seen}
 use Rattle.decoding.specs.ValidTest.{held}
 use Rattle.atlite_laws.specs.Facts.{eqb_same}
@@ -54,7 +54,7 @@ module _ (F : List ℕ) (g : ℕ) (xs : List ℕ) (s : Scope F g xs) where
   set-low x y l false e = rw (get_or-set_other F x y g 0 (eqb-false y x e)) (s.low y)
 
   pub scope-bind : (x : ℕ) → x < no_name → Scope (set F x g) g (x ∷ xs)
-  unfolding any if◌then◌else◌
+  unfolding any
   scope-bind x l = record {
     size = length-set F x g ∙ s.size;
     low = λ y. set-low x y (omega arith) (eqb y x) refl;
