@@ -9,14 +9,14 @@ fn main() {
         Some(folder) => PathBuf::from(folder),
         None => {
             Path::new(&env::var_os("CARGO_MANIFEST_DIR").expect("cargo sets CARGO_MANIFEST_DIR"))
-                .join("../../target/staticlib")
+                .join("../../crates/atlite_calls/out")
         }
     };
     let archive = folder.join("libatlite_calls.a");
     println!("cargo:rerun-if-changed={}", archive.display());
     if !archive.exists() {
         panic!(
-            "{} is missing: build it with `rt staticlib atlite_calls`, or set ATLITE_LIB_DIR",
+            "{} is missing: build it with `rt lib` in crates/atlite_calls, or set ATLITE_LIB_DIR",
             archive.display()
         );
     }
