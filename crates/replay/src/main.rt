@@ -5,6 +5,7 @@
 // The longest input that is not refused has 8,193 bytes. One byte more is read and no further: what is written for the whole input is what is
 // written for its first 8,194 bytes (`replay-take` of crate `play`).
 #![tactic(auto)]
+
 use input::Input;
 use std::io;
 

@@ -5,6 +5,7 @@
 // A record is the length of the input in five digits, a space, the length of what is to be written in five digits and the end of the line;
 // then the input, and what is to be written.
 #![tactic(auto)]
+
 ghost use Rattle.std.specs.Prelude.{◌+◌, ◌≤◌, length};
 ghost use Rattle.play.specs.Limits.{replay_room};
 
@@ -106,7 +107,13 @@ fn tell(rt: &impl Print, agreed: u64, all: u64) -> io::Result<()> {
 }
 
 // Goes through at most `left` records more; of those before, `agreed` agree.
-fn go_through<R: Read>(rt: &impl Print, program: Program, file: &mut R, left: u64, agreed: u64) -> io::Result<()>
+fn go_through<R: Read>(
+    rt: &impl Print,
+    program: Program,
+    file: &mut R,
+    left: u64,
+    agreed: u64,
+) -> io::Result<()>
     requires { agreed + left ≤ 1000 }
 {
     if left == 0 {
