@@ -72,15 +72,30 @@ pub fn read_all<R: Read>(reader: &mut R, buffer: &mut [u8]) -> Input
     Input::Bytes(at)
 }
 
-// Reads the file `name` to its end, or until `buffer` is full. One that cannot be opened is unread, and a line on standard error says why.
+// Reads the file `name`, which is text, as `read_file` does.
 #[tactic(auto, using(crate::specs::Within::laws))]
-pub fn read_file<R: Files + Eprint>(rt: &R, name: &str, buffer: &mut [u8]) -> Input
+fn read_named<R: Files + Eprint>(rt: &R, name: &str, buffer: &mut [u8]) -> Input
     ensures { Within result (length buffer.new) }
 {
     match fs::open(rt, name) {
         Ok(mut file) => read_all(&mut file, buffer),
         Err(e) => {
             let _ = eprintln!(rt; "{name}: {e}");
+            Input::Unread
+        }
+    }
+}
+
+// Reads the file `name` to its end, or until `buffer` is full. One that cannot be opened is unread, and a line on standard error says why.
+// The library's paths are text, so bytes that are none name no file.
+#[tactic(auto, using(crate::specs::Within::laws))]
+pub fn read_file<R: Files + Eprint>(rt: &R, name: &[u8], buffer: &mut [u8]) -> Input
+    ensures { Within result (length buffer.new) }
+{
+    match str::from_utf8(name) {
+        Ok(text) => read_named(rt, text, buffer),
+        Err(_) => {
+            let _ = eprintln!(rt; "a file's name is no text");
             Input::Unread
         }
     }

@@ -14,7 +14,7 @@ use std::rt::Files;
 #[tactic(auto, using(input::specs::Within::counted))]
 fn with_scripts<R: Files + Print + Eprint>(rt: &R, script: &[u8]) -> io::Result<()> {
     let mut large = [0u8; 4096];
-    let r = input::read_file(rt, "large", &mut large);
+    let r = input::read_file(rt, b"large", &mut large);
     match r {
         Input::Bytes(n) => {
             lists::both(rt, script)?;
@@ -27,7 +27,7 @@ fn with_scripts<R: Files + Print + Eprint>(rt: &R, script: &[u8]) -> io::Result<
 #[tactic(auto, using(input::specs::Within::counted))]
 fn main(rt: HostRuntime) -> io::Result<()> {
     let mut script = [0u8; 4096];
-    let r = input::read_file(&rt, "script", &mut script);
+    let r = input::read_file(&rt, b"script", &mut script);
     match r {
         Input::Bytes(n) => with_scripts(&rt, &script[..n]),
         Input::Unread => rt.write_all(&input::UNREAD),

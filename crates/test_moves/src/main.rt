@@ -266,7 +266,7 @@ fn group<R: Files + Print + Eprint>(rt: &R, name: &str, before: Tally) -> io::Re
     ensures { IfOk result (λ t. (t.all ≤ before.all + 65536) × (t.agreed ≤ t.all)) }
 {
     let mut data = [0u8; 65536];
-    let r = input::read_file(rt, name, &mut data);
+    let r = input::read_file(rt, name.as_bytes(), &mut data);
     match r {
         Input::Bytes(n) => make_moves(rt, name, &data[..n], before),
         Input::Unread => {

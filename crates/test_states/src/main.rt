@@ -81,7 +81,7 @@ fn go_through(rt: &impl Print, records: &[u8], words: &mut [u32]) -> io::Result<
 fn main(rt: HostRuntime) -> io::Result<()> {
     let mut data = [0u8; 65536];
     let mut words = [0u32; 16384];
-    let r = input::read_file(&rt, "states", &mut data);
+    let r = input::read_file(&rt, b"states", &mut data);
     match r {
         Input::Bytes(n) => go_through(&rt, &data[..n], &mut words),
         Input::Unread => rt.write_all(&input::UNREAD),

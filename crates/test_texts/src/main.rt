@@ -107,7 +107,7 @@ fn report(rt: &impl Print, records: &[u8]) -> io::Result<()>
 #[tactic(auto, using(input::specs::Within::counted))]
 fn main(rt: HostRuntime) -> io::Result<()> {
     let mut data = [0u8; 65536];
-    let r = input::read_file(&rt, "texts", &mut data);
+    let r = input::read_file(&rt, b"texts", &mut data);
     match r {
         Input::Bytes(n) => report(&rt, &data[..n]),
         Input::Unread => rt.write_all(&input::UNREAD),
