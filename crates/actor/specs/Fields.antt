@@ -25,7 +25,8 @@ use Rattle.decoding.specs.Decode.{fields_in}
 use Rattle.layout_laws.specs.Slots.{length-values, FieldsFit, count-names, count-values}
 use Rattle.layout_laws.specs.Parse.{values_at, zeros_at}
 use Rattle.layout_laws.specs.ParseWords.{holding}
-use Rattle.layout_laws.proofs.ParseMessages.{ValuesAt, values-at, zeros-at, values-read, zeros-read}
+use Rattle.layout_laws.specs.ParseMessages.{ValuesAt}
+use Rattle.layout_laws.proofs.ParseMessages.{values-at, zeros-at, values-read, zeros-read}
 use Rattle.layout_laws.specs.Spans.{Spans, drop_past, drop-next, drop-first, span-end, span-word, span-join}
 use Rattle.term_words.specs.Kinds.{allowed}
 use Rattle.term_words.specs.Words.{within}

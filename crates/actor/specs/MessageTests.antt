@@ -16,8 +16,10 @@ use Rattle.layout.specs.Layout.{encode_message}
 use Rattle.layout_laws.specs.Slots.{MessageFits}
 use Rattle.layout_laws.specs.Parse.{got, value_at, name_of, values_at, zeros_at, parse_message}
 use Rattle.layout_laws.specs.ParseWords.{Holding, holding}
-use Rattle.layout_laws.proofs.ParseSound.{Ended, ended, ended-behind}
-use Rattle.layout_laws.proofs.ParseMessages.{ended-sure, MessageAt, ValuesAt, values-at, message-sound, message-complete}
+use Rattle.layout_laws.specs.ParseSound.{Ended}
+use Rattle.layout_laws.proofs.ParseSound.{ended, ended-behind}
+use Rattle.layout_laws.specs.ParseMessages.{MessageAt, ValuesAt}
+use Rattle.layout_laws.proofs.ParseMessages.{ended-sure, values-at, message-sound, message-complete}
 use Rattle.term_words.specs.Kinds.{allowed}
 use Rattle.term_words.specs.Words.{within, send_in}
 use Rattle.term_words.specs.WordLaws.{within-true}

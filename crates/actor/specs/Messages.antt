@@ -24,7 +24,7 @@ use Rattle.decoding.specs.Decode.{aim, aim_of}
 use Rattle.layout_laws.specs.Slots.{MessageFits, message-length}
 use Rattle.layout_laws.specs.Parse.{value_at}
 use Rattle.layout_laws.specs.ParseWords.{value-sound, value_read}
-use Rattle.layout_laws.proofs.ParseMessages.{MessageAt}
+use Rattle.layout_laws.specs.ParseMessages.{MessageAt}
 use Rattle.layout_laws.specs.Spans.{Spans, drop_past, span_none, span-end, span_of, span-inside, span-join}
 use Rattle.term_words.specs.Kinds.{allowed}
 use Rattle.term_words.specs.Words.{within}

@@ -18,7 +18,7 @@ use Rattle.layout.specs.Terms.{count_methods, encode_methods}
 use Rattle.layout_laws.specs.Fitting.{methods-named-fit, count-methods}
 use Rattle.layout.specs.Layout.{slot_head, tag_number, slot, entity_methods}
 use Rattle.layout_laws.specs.Slots.{EntityFits, tag-low, head-kind, head-fields}
-use Rattle.layout_laws.proofs.ParseSound.{MethodsAt}
+use Rattle.layout_laws.specs.ParseSound.{MethodsAt}
 use Rattle.layout_laws.specs.Spans.{Spans, drop_past, drop-next, drop-first, span-end, span-word, span-join}
 use Rattle.term_words.specs.Kinds.{allowed, future_by}
 use Rattle.actor.specs.Tests.{fields_at, object_end}

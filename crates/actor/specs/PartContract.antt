@@ -7,7 +7,7 @@ use Rattle.atlite.specs.Valid.{WellFormed, IsActor}
 use Rattle.layout.specs.Numbers.{expr_size}
 use Rattle.layout.specs.Layout.{encode_actor}
 use Rattle.layout_laws.specs.Parts.{ActorFits}
-use Rattle.layout_laws.proofs.ParseSound.{TermAt}
+use Rattle.layout_laws.specs.ParseSound.{TermAt}
 use Rattle.term_words.specs.Kinds.{allowed, future_by}
 
 -- r tells whether P holds

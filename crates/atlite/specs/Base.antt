@@ -22,8 +22,8 @@ use Rattle.std.proofs.Math.Option.{Option, none, some}
 --   11  get, set or call on another's entity                   Outcome.own_entity
 --   12  no such field, no method of the name with so many      Rules: fields_of, get_rule, set_rule, methods_of, invoke, resolves
 --       parameters, or an entity of another kind
---   (13).resolve on a resolved future                          Rules.open_future
---   (14).resolve with a future                                 Rules.resolve_rule
+--   13  .resolve on a resolved future                          Rules.open_future
+--   14  .resolve with a future                                 Rules.resolve_rule
 --   15  plus or percent on other than numbers, or too large    Rules.as_number, number
 --   16  a limit would be passed                                Move.limited, Load.load
 --

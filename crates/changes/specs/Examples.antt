@@ -14,7 +14,7 @@ row i o = record { input = i; output = o }
 unfoldable pub agrees : Example → Bool
 agrees k = same_bytes (replay (bytes k.input)) (bytes k.output)
 
--- P1: a.register to null is one move, and the send that it becomes another; null takes nothing else; an asked method may answer null; a
+-- P1: a .register to null is one move, and the send that it becomes another; null takes nothing else; an asked method may answer null; a
 -- future whose value is null sends other messages on to null, and that stops its actor
 unfoldable pub null_replies : List Example
 unfolding row

@@ -1,4 +1,4 @@
--- Request P1, null as a reply: the listener of a.register to null is sent null. What null takes, and the rule of send as it was, which stands here once
+-- Request P1, null as a reply: the listener of a .register to null is sent null. What null takes, and the rule of send as it was, which stands here once
 -- more: it refused that .register with 10. Assumes nothing.
 --
 -- A rule is stated by any rule of send: by the present one it is the present rule, by the former one it is the rule as it was. That a move which was
@@ -18,7 +18,7 @@ use Rattle.atlite.specs.Rules.{send_apply, forward, ownerless_rule, send_rule, r
 use Rattle.changes.specs.MoveBy.{Rule, Operators, present, rule_of, by_message}
 
 -- ---- what null takes
--- the listener that a.register brings to it is sent null, in one move inside the expression
+-- the listener that a .register brings to it is sent null, in one move inside the expression
 pub null-answers : (s : List Actor) (a : ℕ) (A : Actor) (es : Terms) (l : Value) → values_of es ≡ null ∷ l ∷ [] → rule s a A (op (send register) es) ≡ becomes inner A (send_apply l null)
 unfolding rule operate receiver_of send_rule ownerless_rule forward
 null-answers s a A es l e = rw e
@@ -60,7 +60,7 @@ pub data Was (P : Type 0) {A : Type 0} (old new : Result A) : Type 0 where
   same : old ≡ new → Was P old new
   stopped : P → old ≡ refused 10 → Was P old new
 
--- the term is a.register sent to null
+-- the term is a .register sent to null
 pub record RegistersNull (e : Term) : Type 0 where
   pub parts : Terms
   pub others : List Value

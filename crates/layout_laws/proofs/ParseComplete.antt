@@ -15,10 +15,7 @@ use Rattle.layout_laws.specs.Parse.{Got, got, on_got, pair, behind, Head, leaf, 
 use Rattle.layout_laws.specs.ParseWords.{field-read, method-read}
 use Rattle.layout_laws.proofs.ParseHeads.{head-value, head-var, head-op, head-let, head-future, head-literal}
 use Rattle.layout_laws.specs.Spans.{drop_past, drop-next, drop-first}
-
--- a reader that gets a wherever the words xs stand, by fuel and position
-abbrev pub Meets : {A : Type 0} → (ℕ → ℕ → Got A) → List ℕ → List ℕ → A → Type 0
-Meets p w xs a = (n at : ℕ) (r : List ℕ) → length xs ≤ n → drop at w ≡ xs ++ r → p n at ≡ got a (at + length xs)
+use Rattle.layout_laws.specs.ParseComplete.{Meets, MeetsTerm}
 
 module _ (w : List ℕ) where
   meets-none : {A : Type 0} (a : A) → Meets (λ n at. got a at) w [] a
@@ -42,46 +39,43 @@ module _ (w : List ℕ) where
   meets-behind g x h q xs a d k n at r l e =
       ap (λ o. behind o (λ i. q i n (at + 1))) (ap g (drop-first w at x (xs ++ r) e) ∙ d) ∙ k n (at + 1) r (omega arith) (drop-next w at x (xs ++ r) e) ∙ ap (got a) (omega arith)
 
-  abbrev pub MeetsTerm : List ℕ → Term → Type 0
-  MeetsTerm xs e = Meets (λ n at. parse_term n w at) w xs e
-
   -- a head, and the fuel that it takes
-  meets-head : (x : ℕ) (h : Head) (xs : List ℕ) (e : Term) → head_at x ≡ h → Meets (λ n at. formed h (λ i. parse_term n w i) w at) w xs e → MeetsTerm (x ∷ xs) e
+  meets-head : (x : ℕ) (h : Head) (xs : List ℕ) (e : Term) → head_at x ≡ h → Meets (λ n at. formed h (λ i. parse_term n w i) w at) w xs e → MeetsTerm w (x ∷ xs) e
   unfolding parse_term
   meets-head x h xs e d k zero at r l s = absurd (omega arith)
   meets-head x h xs e d k (suc n) at r l s =
       ap (λ y. formed y (λ i. parse_term n w i) w (at + 1)) (ap head_at (drop-first w at x (xs ++ r) s) ∙ d)
       ∙ k n (at + 1) r (omega arith) (drop-next w at x (xs ++ r) s) ∙ ap (got e) (omega arith)
 
-  meets-leaf : (x : ℕ) (e : Term) → head_at x ≡ leaf e → MeetsTerm (x ∷ []) e
+  meets-leaf : (x : ℕ) (e : Term) → head_at x ≡ leaf e → MeetsTerm w (x ∷ []) e
   unfolding formed
   meets-leaf x e d = meets-head x (leaf e) [] e d (meets-none e)
 
-  meets-one : (x : ℕ) (f : Term → Term) (xs : List ℕ) (e : Term) → head_at x ≡ unary f → MeetsTerm xs e → MeetsTerm (x ∷ xs) (f e)
+  meets-one : (x : ℕ) (f : Term → Term) (xs : List ℕ) (e : Term) → head_at x ≡ unary f → MeetsTerm w xs e → MeetsTerm w (x ∷ xs) (f e)
   unfolding formed
   meets-one x f xs e d h = meets-head x (unary f) xs (f e) d (meets_on f (λ n at. parse_term n w at) xs e h)
 
-  meets-two : (x : ℕ) (f : Term → Term → Term) (xs ys : List ℕ) (a b : Term) → head_at x ≡ binary f → MeetsTerm xs a → MeetsTerm ys b → MeetsTerm (x ∷ (xs ++ ys)) (f a b)
+  meets-two : (x : ℕ) (f : Term → Term → Term) (xs ys : List ℕ) (a b : Term) → head_at x ≡ binary f → MeetsTerm w xs a → MeetsTerm w ys b → MeetsTerm w (x ∷ (xs ++ ys)) (f a b)
   unfolding formed
   meets-two x f xs ys a b d h k = meets-head x (binary f) (xs ++ ys) (f a b) d (meets-pair f (λ n at. parse_term n w at) (λ n at. parse_term n w at) xs ys a b h k)
 
-  meets-many : (x : ℕ) (o : Op Name) (c : ℕ) (xs : List ℕ) (es : Terms) → head_at x ≡ many o c → Meets (λ n at. parse_terms n w c at) w xs es → MeetsTerm (x ∷ xs) (op o es)
+  meets-many : (x : ℕ) (o : Op Name) (c : ℕ) (xs : List ℕ) (es : Terms) → head_at x ≡ many o c → Meets (λ n at. parse_terms n w c at) w xs es → MeetsTerm w (x ∷ xs) (op o es)
   unfolding formed
   meets-many x o c xs es d h = meets-head x (many o c) xs (op o es) d (meets_on (op o) (λ n at. parse_terms n w c at) xs es h)
 
   meets-parts : (x : ℕ) (k : Kind) (c d : ℕ) (xs ys : List ℕ) (fs : Inits) (ms : Methods)
-      → head_at x ≡ parts k c d → Meets (λ n at. parse_inits n w c at) w xs fs → Meets (λ n at. parse_methods n w d at) w ys ms → MeetsTerm (x ∷ (xs ++ ys)) (literal k fs ms)
+      → head_at x ≡ parts k c d → Meets (λ n at. parse_inits n w c at) w xs fs → Meets (λ n at. parse_methods n w d at) w ys ms → MeetsTerm w (x ∷ (xs ++ ys)) (literal k fs ms)
   unfolding formed
   meets-parts x k c d xs ys fs ms e h g = meets-head x (parts k c d) (xs ++ ys) (literal k fs ms) e (meets-pair (literal k) (λ n at. parse_inits n w c at) (λ n at. parse_methods n w d at) xs ys fs ms h g)
 
-  meets-field : (f c : ℕ) (xs ys : List ℕ) (e : Term) (fs : Inits) → NameFits f → MeetsTerm xs e → Meets (λ n at. parse_inits n w c at) w ys fs
+  meets-field : (f c : ℕ) (xs ys : List ℕ) (e : Term) (fs : Inits) → NameFits f → MeetsTerm w xs e → Meets (λ n at. parse_inits n w c at) w ys fs
       → Meets (λ n at. parse_inits n w (suc c) at) w (field_header f ∷ (xs ++ ys)) (Inits.field f e fs)
   unfolding inits_by
   meets-field f c xs ys e fs h k g =
       meets-behind field_at (field_header f) f (λ f n at. pair (Inits.field f) (parse_term n w at) (λ i. parse_inits n w c i)) (xs ++ ys) (Inits.field f e fs) (field-read f h)
       (meets-pair (Inits.field f) (λ n at. parse_term n w at) (λ n at. parse_inits n w c at) xs ys e fs k g)
 
-  meets-method : (m : ℕ) (zs : List ℕ) (c : ℕ) (xs ys : List ℕ) (e : Term) (ms : Methods) → NameFits m → Each NameFits zs → length zs ≤ 3 → MeetsTerm xs e
+  meets-method : (m : ℕ) (zs : List ℕ) (c : ℕ) (xs ys : List ℕ) (e : Term) (ms : Methods) → NameFits m → Each NameFits zs → length zs ≤ 3 → MeetsTerm w xs e
       → Meets (λ n at. parse_methods n w c at) w ys ms → Meets (λ n at. parse_methods n w (suc c) at) w (method_header m zs ∷ (xs ++ ys)) (method m zs e ms)
   unfolding methods_by
   meets-method m zs c xs ys e ms h i j k g =

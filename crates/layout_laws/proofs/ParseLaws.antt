@@ -7,8 +7,10 @@ use Rattle.atlite.specs.Term.{Term, Methods, val, var, op, let_in, future, liter
 use Rattle.layout.specs.Terms.{count_methods, encode_term, encode_methods}
 use Rattle.layout_laws.specs.Parse.{Got, none, got, head_at, formed, parse_term, parse_methods}
 use Rattle.layout_laws.specs.Spans.{Spans, span-short}
-use Rattle.layout_laws.proofs.ParseComplete.{Meets, term-complete, methods-complete}
-use Rattle.layout_laws.proofs.ParseSound.{TermAt, MethodsAt, term-sound, methods-sound}
+use Rattle.layout_laws.specs.ParseComplete.{Meets}
+use Rattle.layout_laws.proofs.ParseComplete.{term-complete, methods-complete}
+use Rattle.layout_laws.specs.ParseSound.{TermAt, MethodsAt}
+use Rattle.layout_laws.proofs.ParseSound.{term-sound, methods-sound}
 use Rattle.layout_laws.specs.ParseLaws.{Enough, parse}
 
 meets-span : {A : Type 0} (p : ℕ → ℕ → Got A) (w xs : List ℕ) (a : A) → Meets p w xs a → (n at i : ℕ) → Enough n w at → Spans w at i xs → p n at ≡ got a i

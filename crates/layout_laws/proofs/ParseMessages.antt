@@ -21,12 +21,10 @@ use Rattle.layout_laws.specs.Slots.{length-values, MessageFits, message-length}
 use Rattle.layout_laws.specs.Parse.{Got, none, got, sure, value_at, name_of, before, values_at, zeros_at, parse_message}
 use Rattle.layout_laws.specs.ParseWords.{Holding, ValueWord, value-word, value_read, NameWord, name-word, name-read, word-node}
 use Rattle.layout_laws.proofs.ParseHeads.{asked-sum}
-use Rattle.layout_laws.proofs.ParseSound.{Ended, ended, ended-behind}
+use Rattle.layout_laws.specs.ParseSound.{Ended}
+use Rattle.layout_laws.proofs.ParseSound.{ended, ended-behind}
 use Rattle.layout_laws.specs.Spans.{Spans, drop_past, drop-next, drop-first, span_none, span-end, span-word, span-join}
-
--- ---- the arguments and the empty words
-abbrev pub ValuesAt : List ℕ → ℕ → ℕ → List Value → Type 0
-ValuesAt w c at vs = Each ValueFits vs × (length vs ≡ c) × Spans w at (at + c) (value_words vs)
+use Rattle.layout_laws.specs.ParseMessages.{ValuesAt, MessageAt}
 
 both_true : (b c : Bool) → elim b as (λ x. Bool) [ true ↦ c | false ↦ false ] ≡ true → (b ≡ true) × (c ≡ true)
 both_true true c e = (refl, e)
@@ -60,10 +58,6 @@ module _ (w : List ℕ) where
       let h = both_true (eqb (get_or w at 0) 0) (zeros_at w c (at + 1)) e in
       let s : Spans w at (at + 1) (0 ∷ []) = rw (eqb-true (get_or w at 0) 0 h.0) at (span-word w at (omega arith)) in
       span-end w at (at + 1 + c) (at + suc c) (zeros (suc c)) (span-join w at (at + 1) (at + 1 + c) (0 ∷ []) (zeros c) s (zeros-at c (at + 1) (omega arith) h.1)) (omega arith)
-
--- ---- what is got stands there
-abbrev pub MessageAt : List ℕ → ℕ → Message → ℕ → Type 0
-MessageAt w at m i = MessageFits m × Spans w at i (encode_message m)
 
 pub ended-sure : {A : Type 0} (R : A → ℕ → Type 0) (b : Bool) (g : Got A) → (b ≡ true → Ended R g) → Ended R (sure b g)
 ended-sure R true g h = h refl

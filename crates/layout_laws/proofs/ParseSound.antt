@@ -17,11 +17,7 @@ use Rattle.layout_laws.specs.ParseWords.{Holding, field-word, MethodIs, method-w
 use Rattle.layout_laws.specs.ParseHeads.{Is, Reads}
 use Rattle.layout_laws.proofs.ParseHeads.{head-reads}
 use Rattle.layout_laws.specs.Spans.{Spans, span_none, span-word, span-join}
-
--- ---- answers
-abbrev pub Ended : {A : Type 0} → (A → ℕ → Type 0) → Got A → Type 0
-Ended Q none = Unit {0}
-Ended Q (got a i) = Q a i
+use Rattle.layout_laws.specs.ParseSound.{Ended, TermAt, TermsAt, InitsAt, MethodsAt}
 
 pub ended : {A : Type 0} (Q : A → ℕ → Type 0) (g : Got A) (a : A) (i : ℕ) → Ended Q g → g ≡ got a i → Q a i
 ended Q g a i h e = rw e at h
@@ -47,19 +43,6 @@ ended-word R w at f z h = go (ltb at (length w)) refl
     go : (b : Bool) → ltb at (length w) ≡ b → Ended R (f (get_or w at 0))
     go true e = h (ltb-true at (length w) e)
     go false e = let d : f (get_or w at 0) ≡ none = ap f (get_or-eq_default w 0 (ltb-false at (length w) e)) ∙ z in rw d tt
-
--- ---- what stands at a position
-abbrev pub TermAt : List ℕ → ℕ → Term → ℕ → Type 0
-TermAt w at e i = Fits e × Spans w at i (encode_term e)
-
-abbrev pub TermsAt : List ℕ → ℕ → ℕ → Terms → ℕ → Type 0
-TermsAt w c at es i = FitsAll es × (count_terms es ≡ c) × Spans w at i (encode_terms es)
-
-abbrev pub InitsAt : List ℕ → ℕ → ℕ → Inits → ℕ → Type 0
-InitsAt w c at fs i = FitsInits fs × (count_inits fs ≡ c) × Spans w at i (encode_inits fs)
-
-abbrev pub MethodsAt : List ℕ → ℕ → ℕ → Methods → ℕ → Type 0
-MethodsAt w c at ms i = FitsMethods ms × (count_methods ms ≡ c) × Spans w at i (encode_methods ms)
 
 -- a word, a part and another part
 span-three : (w : List ℕ) (x at i j : ℕ) (xs ys : List ℕ) → Spans w at (at + 1) (x ∷ []) → Spans w (at + 1) i xs → Spans w i j ys → Spans w at j (x ∷ (xs ++ ys))

@@ -32,6 +32,9 @@ pub mod Parse
 pub mod ParseWords
 pub mod ParseHeads
 pub mod Spans
+pub mod ParseComplete
+pub mod ParseSound
 pub mod ParseLaws
+pub mod ParseMessages
 pub mod Arity
 pub mod KindLaws
