@@ -6,12 +6,12 @@ use mathlib.Core.List.{List, [], ◌∷◌}
 use Rattle.std.proofs.Math.ListN.{length}
 use Rattle.atlite.specs.Base.{member}
 use Rattle.atlite_laws.specs.Facts.{Every, holds, nothing, every-if}
-use Rattle.atlite.specs.Term.{this, ·t, ·r, ·x, Value, null, Name, plain, two_way, resolve, register, Op, set, call, send, Term, val, var, op, let_in, future, literal, Terms, nil, cons, Inits, no_field, field, Methods, no_method, method, two, Signature, same_signature, signatures, values, is_value}
+use Rattle.atlite.specs.Term.{this, ·t, ·r, ·x, Value, null, Name, plain, two_way, resolve, register, Op, set, call, send, Term, val, var, op, let_in, future, literal, Terms, nil, cons, Inits, no_field, field, Methods, no_method, method, two, Signature, same_signature, signatures, values, is_value, value_of}
 use Rattle.atlite.specs.Subst.{subst, subst_all, subst_inits, subst_methods, subst_params, enters}
 use Rattle.atlite.specs.Redex.{ready, redex, redex_among, plug, plug_among}
 use Rattle.atlite.specs.State.{Message, message}
 use Rattle.atlite_laws.specs.Closures.{closure, function_with, resolving_with, two-way}
-use Rattle.atlite.specs.Rules.{choice, updates, invoke, forward, forward_all}
+use Rattle.atlite.specs.Rules.{says_no, choice, updates, invoke, forward, forward_all}
 use Rattle.atlite.specs.Move.{init_of, last_of, process}
 use Rattle.invariant.specs.Terms.{chosen, methods-named}
 
@@ -133,7 +133,7 @@ module _ (Q : Op Name → Type 0) (L : List Signature → Type 0) where
   choice-throughout nil h = nothing
   choice-throughout (cons c nil) h = nothing
   choice-throughout (cons c (cons d nil)) h = nothing
-  choice-throughout (cons c (cons d (cons e nil))) h = holds (chosen Throughout _ (λ _. h.1.1.0) (λ _. h.1.0))
+  choice-throughout (cons c (cons d (cons e nil))) h = holds (chosen Throughout (says_no (value_of c)) {x = e} {y = d} (λ _. h.1.1.0) (λ _. h.1.0))
   choice-throughout (cons c (cons d (cons e (cons x es)))) h = nothing
 
   values-throughout : (vs : List Value) → ThroughoutAll (values vs)
