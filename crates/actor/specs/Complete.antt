@@ -1,8 +1,8 @@
 -- Of an actor's part the tests are true: region by region, from the words of the actor. Assumes nothing.
 use Prim.Native.Nat.{ℕ, ◌+◌, ◌-◌, ◌*◌, ◌≤◌, ◌<◌}
-use Rattle.std.specs.Prelude.{◌≡◌, drop}
+use Rattle.std.specs.Prelude.{◌≡◌, refl, Option, Some, drop}
 use Rattle.std.proofs.Math.Path.{sym, ap, ap₂}
-use Rattle.std.proofs.Common.{◌∙◌, eq-eqb, le-leb, length-append}
+use Rattle.std.proofs.Common.{◌∙◌, eq-eqb, le-leb}
 use Rattle.std.proofs.Math.Bool.{true}
 use mathlib.Core.List.{List, [], ◌++◌, append-nil}
 use native.Mathlib.Omega.{arith}
@@ -95,7 +95,7 @@ module _ (K : List ℕ) (a W : ℕ) (w : List ℕ) (few : W ≤ 64) (l : a < own
         z.1
 
     -- ---- the expression
-    expr-complete : (e : ℕ) → Ends K a W (take expr_size (drop expr_at w)) e → expr_holds w e ≡ true
+    expr-complete : (e : Option ℕ) → Ends K a W (take expr_size (drop expr_at w)) e → expr_holds w e ≡ true
     unfolding expr_holds
     expr-complete e j =
         let R = take expr_size (drop expr_at w) in
@@ -103,9 +103,9 @@ module _ (K : List ℕ) (a W : ℕ) (w : List ℕ) (few : W ≤ 64) (l : a < own
         let d = from-expr (regions A fits) w whole in
         let z = region-complete w expr_at expr_size x _ d in
         let s : Spans R 0 n x = span-in w expr_at expr_size x _ fits.expression_words z.0 in
-        let i : e ≡ n = j.complete A.expr n (fits.expression, s) holds.expr in
+        let i : e ≡ Some n = j.complete A.expr n (fits.expression, s) holds.expr in
         let nd : nodes_in (slice 0 n R) ≡ nodes A.expr = ap nodes_in (span-front R n x s) ∙ term-nodes A.expr fits.expression in
-        rw word5 (both₃ (eq-eqb e n i) (le-leb (nodes_in (slice 0 n R)) 256 (omega (arith, within.nodes≤))) z.1)
+        rw (word5, i) (both₃ (eq-eqb n n refl) (le-leb (nodes_in (slice 0 n R)) 256 (omega (arith, within.nodes≤))) z.1)
 
     -- ---- messages
     inbox-part : inbox_holds w K a W ≡ true
@@ -139,7 +139,7 @@ module _ (K : List ℕ) (a W : ℕ) (w : List ℕ) (few : W ≤ 64) (l : a < own
         rw (word4, word1) (both₂ (waiting-complete K a W w l M m 0 waiting_at _ (omega (arith, fits.made_count)) z.0 f o) t)
 
     -- ---- both series
-    module _ (f g : ℕ → ℕ → ℕ) (jf : Judges K a W w (take bodies_size (drop bodies_at w)) few shared f) (jg : Judges K a W w (take bodies_size (drop bodies_at w)) few isolated g) where
+    module _ (f g : ℕ → ℕ → Option ℕ) (jf : Judges K a W w (take bodies_size (drop bodies_at w)) few shared f) (jg : Judges K a W w (take bodies_size (drop bodies_at w)) few isolated g) where
       abbrev B : List ℕ
       B = take bodies_size (drop bodies_at w)
 
@@ -167,52 +167,49 @@ module _ (K : List ℕ) (a W : ℕ) (w : List ℕ) (few : W ≤ 64) (l : a < own
       copied_at_lem : drop copied_at w ≡ slots 0 A.copied ++ (zeros (copied_size - length (slots 0 A.copied)) ++ from_bodies xs)
       copied_at_lem = (region-complete w copied_at copied_size (slots 0 A.copied) _ (from-copied (regions A fits) w whole)).0
 
-      short : (e ≤ bodies_size) × (d ≤ bodies_size)
-      short = (omega (arith, fits.body_words, length-append (bodies A.made) (bodies A.copied)), fits.body_words)
-
-      made-reached : made_reached w K a W f g ≡ e
+      made-reached : made_reached w K a W f g ≡ Some e
       unfolding made_reached
       made-reached =
           ap (λ n. slots_end (made_end K a W w f g) n 0 made_at 0) word1
-          ∙ slots-complete w B E (made_end K a W w f g) (λ n at b i o h. made-complete K a W w B few f g jf jg n at b i o h) A.made 0 made_at 0 e _ short.0 made_at_lem both-stand.0 fits.made_fits (whole_each E A.made holds.made)
+          ∙ slots-complete w B E (made_end K a W w f g) (λ n at b i o h. made-complete K a W w B few f g jf jg n at b i o h) A.made 0 made_at 0 e _ made_at_lem both-stand.0 fits.made_fits (whole_each E A.made holds.made)
 
-      copied-reached : copied_reached w K a W f g ≡ d
+      copied-reached : copied_reached w K a W f g e ≡ Some d
       unfolding copied_reached
       copied-reached =
-          ap₂ (λ n b. slots_end (copied_end K a W w f g) n 0 copied_at b) word2 made-reached
-          ∙ slots-complete w B C (copied_end K a W w f g) (λ n at b i o h. copied-complete K a W w B few f g jf jg n at b i o (h.0, h.1, h.2, h.3.1) h.3.0) A.copied 0 copied_at e d _ short.1 copied_at_lem both-stand.1 fits.copied_fits (whole_each C A.copied holds.copied)
+          ap (λ n. slots_end (copied_end K a W w f g) n 0 copied_at e) word2
+          ∙ slots-complete w B C (copied_end K a W w f g) (λ n at b i o h. copied-complete K a W w B few f g jf jg n at b i o (h.0, h.1, h.2, h.3.1) h.3.0) A.copied 0 copied_at e d _ copied_at_lem both-stand.1 fits.copied_fits (whole_each C A.copied holds.copied)
 
-      made_holds_lem : made_holds w (made_reached w K a W f g) ≡ true
+      made_holds_lem : made_holds w ≡ true
       unfolding made_holds
       made_holds_lem =
           let m = length A.made in
           let z = region-complete w made_at made_size (slots 0 A.made) _ (from-made (regions A fits) w whole) in
           let c : length (slots 0 A.made) ≡ slot_size * m = slots_length 0 A.made fits.made_fits ∙ omega arith in
           let t : zeros_at w (made_size - slot_size * m) (made_at + slot_size * m) ≡ true = rw c at z.1 in
-          rw (word1, made-reached) (both₂ (le-leb e bodies_size short.0) t)
+          rw word1 t
 
-      copied-holds : copied_holds w (copied_reached w K a W f g) ≡ true
+      copied-holds : copied_holds w ≡ true
       unfolding copied_holds
       copied-holds =
           let m = length A.copied in
           let z = region-complete w copied_at copied_size (slots 0 A.copied) _ (from-copied (regions A fits) w whole) in
           let c : length (slots 0 A.copied) ≡ slot_size * m = slots_length 0 A.copied fits.copied_fits ∙ omega arith in
           let t : zeros_at w (copied_size - slot_size * m) (copied_at + slot_size * m) ≡ true = rw c at z.1 in
-          rw (word2, copied-reached) (both₂ (le-leb d bodies_size short.1) t)
+          rw word2 t
 
-      bodies-hold : bodies_hold w (copied_reached w K a W f g) ≡ true
+      bodies-hold : bodies_hold w d ≡ true
       unfolding bodies_hold
       bodies-hold =
           let z = region-complete w bodies_at (bodies_size + rest_size) xs [] at-bodies in
           let n : nodes_in (slice 0 d B) ≡ sum body_nodes A.made + sum body_nodes A.copied =
           ap nodes_in (span-front B d xs bodies-stand) ∙ nodes-append (bodies A.made) (bodies A.copied) ∙ ap₂ ◌+◌ (bodies-nodes 0 A.made fits.made_fits) (bodies-nodes 0 A.copied fits.copied_fits) in
-          rw copied-reached (both₂ (le-leb (nodes_in (slice 0 d B)) 768 (omega (arith, within.bodies≤))) z.1)
+          both₂ (le-leb (nodes_in (slice 0 d B)) 768 (omega (arith, within.bodies≤))) z.1
 
       heap-complete : heap_holds w K a W f g ≡ true
       unfolding heap_holds end_holds
-      heap-complete = both₂ made_holds_lem (both₂ copied-holds bodies-hold)
+      heap-complete = rw made-reached (both₂ made_holds_lem (rw copied-reached (both₂ copied-holds bodies-hold)))
 
-  pub part-complete : (f g : ℕ → ℕ → ℕ) (e : ℕ) → Judges K a W w (take bodies_size (drop bodies_at w)) few shared f → Judges K a W w (take bodies_size (drop bodies_at w)) few isolated g → Ends K a W (take expr_size (drop expr_at w)) e
+  pub part-complete : (f g : ℕ → ℕ → Option ℕ) (e : Option ℕ) → Judges K a W w (take bodies_size (drop bodies_at w)) few shared f → Judges K a W w (take bodies_size (drop bodies_at w)) few isolated g → Ends K a W (take expr_size (drop expr_at w)) e
       → IsPart K a W w → part_holds w K a W f g e ≡ true
   unfolding IsPart part_holds rest_holds
   part-complete f g e jf jg je p =

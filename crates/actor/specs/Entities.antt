@@ -1,7 +1,6 @@
--- One slot of either series: the test answers where the methods of the entity that stands there end, by its kind, and a number above
--- all bodies where no entity stands. Futures and resolvers have no methods, so their answer is where they began. Assumes nothing.
+-- One slot of either series: the test answers where the methods of the entity that stands there end, by its kind, if one does. Futures and resolvers have no methods, so their answer is where they began. Assumes nothing.
 use Prim.Native.Nat.{ℕ, zero, suc, ◌+◌, ◌*◌, ◌≤◌, ◌<◌, ◌/◌, ◌%◌}
-use Rattle.std.specs.Prelude.{◌≡◌, Bool, false, ◌&&◌, cond, ltb, length}
+use Rattle.std.specs.Prelude.{◌≡◌, Bool, false, ◌&&◌, cond, Option, Some, None, ltb, length}
 use Rattle.std.proofs.Math.Path.{refl, ap}
 use Rattle.std.proofs.Common.{sym, ◌∙◌}
 use Rattle.std.proofs.Math.Bool.{true, not}
@@ -17,7 +16,7 @@ use Rattle.atlite.specs.Term.{made, Value, ref}
 use Rattle.atlite.specs.State.{Message, shared, isolated, Entity, object, future, resolver, is_isolate}
 use Rattle.atlite.specs.Valid.{IsEntity}
 use Rattle.atlite_laws.specs.Facts.{and₂, and₃, and₄, both₂, both₃, both₄}
-use Rattle.layout.specs.Numbers.{digit_limit, digits_limit, slot_unit, slot_size, slot_count, bodies_size}
+use Rattle.layout.specs.Numbers.{digit_limit, digits_limit, slot_unit, slot_size, slot_count}
 use Rattle.layout.specs.Pack.{zeros}
 use Rattle.layout.specs.Terms.{encode_value, encode_methods}
 use Rattle.layout.specs.Layout.{slot_head, tag_number, slot, entity_methods}
@@ -31,7 +30,7 @@ use Rattle.term_words.specs.Words.{within}
 use Rattle.term_words.specs.WordLaws.{within-true}
 use Rattle.actor.specs.Tests.{object_end, plain_at, open_at, settled_at, resolver_at, slot_forms, made_end, copied_end}
 use Rattle.actor.specs.MessageTests.{some-within}
-use Rattle.actor.specs.Objects.{reached-by, head-number, span-is, Judges, Here, object-sound, object-complete}
+use Rattle.actor.specs.Objects.{reached-by, reached-if, head-number, span-is, Judges, Here, object-sound, object-complete}
 
 -- ---- tests
 not-false : (b : Bool) → not b ≡ true → b ≡ false
@@ -157,53 +156,53 @@ module _ (K : List ℕ) (a W : ℕ) (w B : List ℕ) (few : W ≤ 64) where
       (p.0, p.1, both₃ p.2 (rw d.0 h) d.1)
 
   -- ---- all kinds
-  module _ (f g : ℕ → ℕ → ℕ) (jf : Judges K a W w B few shared f) (jg : Judges K a W w B few isolated g) where
-    pub made-sound : (n at b e : ℕ) → at + slot_size ≤ length w → e ≤ bodies_size → made_end K a W w f g n at b ≡ e → (o : Entity) × Here K a W w B few n at b o e
+  module _ (f g : ℕ → ℕ → Option ℕ) (jf : Judges K a W w B few shared f) (jg : Judges K a W w B few isolated g) where
+    pub made-sound : (n at b e : ℕ) → at + slot_size ≤ length w → made_end K a W w f g n at b ≡ Some e → (o : Entity) × Here K a W w B few n at b o e
     unfolding made_end tag_number
-    made-sound n at b e i l h =
+    made-sound n at b e i h =
         let x = get_or w at 0 in
         let m = x / digits_limit % digit_limit in
-        let r = reached-by (eqb (x / slot_unit) n) (get_or (slot_forms K a W w f g m at b) (x % digit_limit) 4096) e h l in
+        let r = reached-if (eqb (x / slot_unit) n) (get_or (slot_forms K a W w f g m at b) (x % digit_limit) None) e h in
         go (x % digit_limit) refl (eqb-true (x / slot_unit) n r.0) r.1
       where
-        go : (k : ℕ) → get_or w at 0 % digit_limit ≡ k → get_or w at 0 / slot_unit ≡ n → get_or (slot_forms K a W w f g (get_or w at 0 / digits_limit % digit_limit) at b) k 4096 ≡ e → (o : Entity) × Here K a W w B few n at b o e
-        go zero k num h = absurd (omega arith)
-        go (suc zero) k num h = let r = object-sound K a W w B few shared f jf n at b e i l num k h in (object shared r.0 r.1, r.2)
-        go (suc (suc zero)) k num h = let r = object-sound K a W w B few isolated g jg n at b e i l num k h in (object isolated r.0 r.1, r.2)
-        go (suc (suc (suc zero))) k num h = let t = reached-by (open_at w at) b e h l in (future none [], here_end n at b e (future none []) t.1 (open-sound n at b i num k t.0))
+        go : (k : ℕ) → get_or w at 0 % digit_limit ≡ k → get_or w at 0 / slot_unit ≡ n → get_or (slot_forms K a W w f g (get_or w at 0 / digits_limit % digit_limit) at b) k None ≡ Some e → (o : Entity) × Here K a W w B few n at b o e
+        go zero k num h = cc
+        go (suc zero) k num h = let r = object-sound K a W w B few shared f jf n at b e i num k h in (object shared r.0 r.1, r.2)
+        go (suc (suc zero)) k num h = let r = object-sound K a W w B few isolated g jg n at b e i num k h in (object isolated r.0 r.1, r.2)
+        go (suc (suc (suc zero))) k num h = let t = reached-by (open_at w at) b e h in (future none [], here_end n at b e (future none []) t.1 (open-sound n at b i num k t.0))
         go (suc (suc (suc (suc zero)))) k num h =
-            let t = reached-by (settled_at K a w at) b e h l in let r = settled-sound n at b i num k t.0 in (future (some r.0) [], here_end n at b e (future (some r.0) []) t.1 r.1)
+            let t = reached-by (settled_at K a w at) b e h in let r = settled-sound n at b i num k t.0 in (future (some r.0) [], here_end n at b e (future (some r.0) []) t.1 r.1)
         go (suc (suc (suc (suc (suc zero))))) k num h =
-            let t = reached-by (resolver_at K a w at) b e h l in (resolver (get_or w (at + 2) 0), here_end n at b e (resolver (get_or w (at + 2) 0)) t.1 (resolver-sound n at b i num k t.0))
-        go (suc (suc (suc (suc (suc (suc k)))))) d num h = absurd (omega arith)
+            let t = reached-by (resolver_at K a w at) b e h in (resolver (get_or w (at + 2) 0), here_end n at b e (resolver (get_or w (at + 2) 0)) t.1 (resolver-sound n at b i num k t.0))
+        go (suc (suc (suc (suc (suc (suc k)))))) d num h = cc
 
     -- in a table of answers
-    made_by : (n at b k e : ℕ) → get_or w at 0 / slot_unit ≡ n → get_or w at 0 % digit_limit ≡ k → get_or (slot_forms K a W w f g (get_or w at 0 / digits_limit % digit_limit) at b) k 4096 ≡ e → made_end K a W w f g n at b ≡ e
+    made_by : (n at b k e : ℕ) → get_or w at 0 / slot_unit ≡ n → get_or w at 0 % digit_limit ≡ k → get_or (slot_forms K a W w f g (get_or w at 0 / digits_limit % digit_limit) at b) k None ≡ Some e → made_end K a W w f g n at b ≡ Some e
     unfolding made_end
     made_by n at b k e num d h = rw (eq-eqb (get_or w at 0 / slot_unit) n num, d) h
 
-    pub made-complete : (n at b e : ℕ) (o : Entity) → Here K a W w B few n at b o e → made_end K a W w f g n at b ≡ e
+    pub made-complete : (n at b e : ℕ) (o : Entity) → Here K a W w B few n at b o e → made_end K a W w f g n at b ≡ Some e
     unfolding tag_number entity_methods encode_methods
     made-complete n at b e (object shared F M) h = let r = object-complete K a W w B few shared f jf n at b e F M h in made_by n at b 1 e r.0 r.1 r.2
     made-complete n at b e (object isolated F M) h = let r = object-complete K a W w B few isolated g jg n at b e F M h in made_by n at b 2 e r.0 r.1 r.2
     made-complete n at b e (future none q) h =
-        let r = open-complete n at q (drop (at + slot_size) w) h.0.0 in made_by n at b 3 e r.0 r.1 (rw r.2 (sym (h.1.1 ∙ add-zero b)))
+        let r = open-complete n at q (drop (at + slot_size) w) h.0.0 in made_by n at b 3 e r.0 r.1 (rw r.2 (ap Some (sym (h.1.1 ∙ add-zero b))))
     made-complete n at b e (future (some v) q) h =
-        let r = settled-complete n at v q (drop (at + slot_size) w) h.2 h.3 h.0.0 in made_by n at b 4 e r.0 r.1 (rw r.2 (sym (h.1.1 ∙ add-zero b)))
+        let r = settled-complete n at v q (drop (at + slot_size) w) h.2 h.3 h.0.0 in made_by n at b 4 e r.0 r.1 (rw r.2 (ap Some (sym (h.1.1 ∙ add-zero b))))
     made-complete n at b e (resolver k) h =
-        let r = resolver-complete n at k (drop (at + slot_size) w) h.3 h.0.0 in made_by n at b 5 e r.0 r.1 (rw r.2 (sym (h.1.1 ∙ add-zero b)))
+        let r = resolver-complete n at k (drop (at + slot_size) w) h.3 h.0.0 in made_by n at b 5 e r.0 r.1 (rw r.2 (ap Some (sym (h.1.1 ∙ add-zero b))))
 
     -- ---- series c: isolates alone
-    pub copied-sound : (n at b e : ℕ) → at + slot_size ≤ length w → e ≤ bodies_size → copied_end K a W w f g n at b ≡ e → (o : Entity) × Here K a W w B few n at b o e × (is_isolate o ≡ true)
+    pub copied-sound : (n at b e : ℕ) → at + slot_size ≤ length w → copied_end K a W w f g n at b ≡ Some e → (o : Entity) × Here K a W w B few n at b o e × (is_isolate o ≡ true)
     unfolding copied_end tag_number is_isolate
-    copied-sound n at b e i l h =
+    copied-sound n at b e i h =
         let x = get_or w at 0 in
-        let r = reached-by (eqb (x / slot_unit) n && eqb (x % digit_limit) 2) (object_end K a W w at b (g (x / digits_limit % digit_limit) b)) e h l in
+        let r = reached-if (eqb (x / slot_unit) n && eqb (x % digit_limit) 2) (object_end K a W w at b (g (x / digits_limit % digit_limit) b)) e h in
         let t = and₂ (eqb (x / slot_unit) n) (eqb (x % digit_limit) 2) r.0 in
-        let s = object-sound K a W w B few isolated g jg n at b e i l (eqb-true (x / slot_unit) n t.0) (eqb-true (x % digit_limit) 2 t.1) r.1 in
+        let s = object-sound K a W w B few isolated g jg n at b e i (eqb-true (x / slot_unit) n t.0) (eqb-true (x % digit_limit) 2 t.1) r.1 in
         (object isolated s.0 s.1, s.2, refl)
 
-    pub copied-complete : (n at b e : ℕ) (o : Entity) → Here K a W w B few n at b o e → is_isolate o ≡ true → copied_end K a W w f g n at b ≡ e
+    pub copied-complete : (n at b e : ℕ) (o : Entity) → Here K a W w B few n at b o e → is_isolate o ≡ true → copied_end K a W w f g n at b ≡ Some e
     unfolding copied_end tag_number is_isolate
     copied-complete n at b e (object shared F M) h i = absurd (false≢true i)
     copied-complete n at b e (object isolated F M) h i =

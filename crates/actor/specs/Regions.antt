@@ -1,6 +1,6 @@
 -- Regions of a part: words in front and zeros behind; and what stands in a part of the words stands in the words. Assumes nothing.
 use Rattle.std.specs.Prelude.{ℕ, ◌+◌, ◌-◌, ◌≤◌, ◌≡◌, refl, true, List, [], ◌∷◌, ◌++◌, take, drop, get_or}
-use Rattle.std.proofs.Common.{sym, ap, ap₂, ◌∙◌, append_assoc, append-nil, arith, take-append-drop, length-drop, drop_of_length-le, length-take-le, drop-drop, take_at}
+use Rattle.std.proofs.Common.{sym, ap, ap₂, ◌∙◌, append_assoc, append-nil, arith, take-append-drop, length-append, length-drop, drop_of_length-le, length-take-le, drop-drop, take_at}
 use Rattle.std.proofs.Math.ListN.{length}
 use Rattle.std.proofs.Math.Seq.{slice, take-append-add}
 use Rattle.std.proofs.lemmas.List.{drop-append-le}
@@ -50,6 +50,10 @@ module _ (w : List ℕ) where
       let t0 : Spans w 0 part_size x = span-join w 0 16 part_size h (e ++ (i ++ (q ++ (m ++ (c ++ b))))) s0 t1 in
       let end : length w ≤ part_size = omega arith in
       sym (t0.0 ∙ ap (λ y. x ++ y) (drop_of_length-le w end) ∙ append-nil x)
+
+  -- what stands there is within the words
+  pub span-within : (at i : ℕ) (xs : List ℕ) → Spans w at i xs → at ≤ length w → i ≤ length w
+  span-within at i xs s l = omega (arith, ap length s.0, length-drop at w, length-drop i w, length-append xs (drop i w), s.1)
 
   -- ---- a part of the words
   pub span-out : (s n i : ℕ) (xs : List ℕ) → s + n ≤ length w → i ≤ n → Spans (take n (drop s w)) 0 i xs → Spans w s (s + i) xs

@@ -1,23 +1,23 @@
 -- The slots of a series, one behind the other: the test answers where the methods of all of them end just where such entities stand.
 -- Said for whatever judges one slot (f) by whatever is asked of an entity (E). Assumes nothing.
 use Prim.Native.Nat.{ℕ, zero, suc, ◌+◌, ◌*◌, ◌≤◌}
-use Rattle.std.specs.Prelude.{◌≡◌, leb}
+use Rattle.std.specs.Prelude.{◌≡◌, Option as Maybe, Some, None}
+use Rattle.std.specs.Option.{option_and_then}
+use Rattle.std.proofs.lemmas.Option.{same_Some}
 use Rattle.std.proofs.Math.Path.{refl, ap}
 use Rattle.std.proofs.Common.{sym, ◌∙◌, subst as transp, arith, length-append}
 use mathlib.Core.List.{List, [], ◌∷◌, ◌++◌, append_assoc}
 use Rattle.std.proofs.Math.Option.{some}
-use borrow.Author.Tests.{leb-true, le-leb}
 use Rattle.std.proofs.Math.ListN.{length, drop, get_elem?}
 use Rattle.atlite.specs.State.{Entity}
 use Rattle.atlite.specs.Valid.{Each}
 use Rattle.atlite_laws.specs.Facts.{none-some}
-use Rattle.layout.specs.Numbers.{slot_size, bodies_size}
+use Rattle.layout.specs.Numbers.{slot_size}
 use Rattle.layout.specs.Terms.{encode_methods}
 use Rattle.layout.specs.Layout.{slot, slots, entity_methods, bodies}
 use Rattle.layout_laws.specs.Slots.{EntityFits, EntitiesFit, slot-length}
 use Rattle.layout_laws.specs.Spans.{Spans, drop_past, span_of, span_none, span-end, span-join}
 use Rattle.actor.specs.Tests.{slots_end}
-use Rattle.actor.specs.Objects.{reached-by}
 
 -- of each, with its number from n on
 abbrev pub EachFrom : (ℕ → Entity → Type 0) → ℕ → List Entity → Type 0
@@ -61,32 +61,36 @@ module _ (w B : List ℕ) (E : ℕ → Entity → Type 0) where
   abbrev pub SeriesIs : ℕ → ℕ → ℕ → ℕ → ℕ → List Entity → Type 0
   SeriesIs k n at b e h = (length h ≡ k) × Spans w at (at + slot_size * k) (slots n h) × Spans B b e (bodies h) × EntitiesFit n h × EachFrom E n h
 
-  module _ (f : ℕ → ℕ → ℕ → ℕ) where
-    module _ (sound : (n at b e : ℕ) → at + slot_size ≤ length w → e ≤ bodies_size → f n at b ≡ e → (o : Entity) × Stands n at b o e) where
-      pub slots-sound : (k n at b e : ℕ) → at + slot_size * k ≤ length w → e ≤ bodies_size → slots_end f k n at b ≡ e → (h : List Entity) × SeriesIs k n at b e h
+  module _ (f : ℕ → ℕ → ℕ → Maybe ℕ) where
+    module _ (sound : (n at b e : ℕ) → at + slot_size ≤ length w → f n at b ≡ Some e → (o : Entity) × Stands n at b o e) where
+      pub slots-sound : (k n at b e : ℕ) → at + slot_size * k ≤ length w → slots_end f k n at b ≡ Some e → (h : List Entity) × SeriesIs k n at b e h
       unfolding slots_end slots bodies
-      slots-sound zero n at b e i l h = ([], (refl, span-end w at at (at + slot_size * 0) [] (span_none w at) (omega arith), span-end B b b e [] (span_none B b) h, tt, tt))
-      slots-sound (suc k) n at b e i l h =
-          let x = f n at b in
-          let r = reached-by (leb x bodies_size) (slots_end f k (suc n) (at + slot_size) x) e h l in
-          let o = sound n at b x (omega arith) (leb-true x bodies_size r.0) refl in
-          let s = slots-sound k (suc n) (at + slot_size) x e (omega arith) l r.1 in (
-            o.0 ∷ s.0,
-            (
-              ap suc s.1.0,
-              span-end w at (at + slot_size + slot_size * k) (at + slot_size * suc k) (slot n o.0 ++ slots (suc n) s.0) (span-join w at (at + slot_size) (at + slot_size + slot_size * k) (slot n o.0) (slots (suc n) s.0) o.1.0 s.1.1) (omega arith),
-              span-join B b x e (encode_methods (entity_methods o.0)) (bodies s.0) o.1.1 s.1.2,
-              (o.1.2, s.1.3),
-              (o.1.3, s.1.4),
-            ),
-          )
+      slots-sound zero n at b e i h =
+          let q = same_Some b e h in ([], (refl, span-end w at at (at + slot_size * 0) [] (span_none w at) (omega arith), span-end B b b e [] (span_none B b) q, tt, tt))
+      slots-sound (suc k) n at b e i h = go (λ x r. slots-sound k (suc n) (at + slot_size) x e (omega arith) r) (f n at b) refl h
+        where
+          go : ((x : ℕ) → slots_end f k (suc n) (at + slot_size) x ≡ Some e → (h : List Entity) × SeriesIs k (suc n) (at + slot_size) x e h) → (u : Maybe ℕ) → f n at b ≡ u
+              → option_and_then (slots_end f k (suc n) (at + slot_size)) u ≡ Some e → (h : List Entity) × SeriesIs (suc k) n at b e h
+          go rec None d h = cc
+          go rec (Some x) d h =
+              let o = sound n at b x (omega arith) d in
+              let s = rec x h in (
+                o.0 ∷ s.0,
+                (
+                  ap suc s.1.0,
+                  span-end w at (at + slot_size + slot_size * k) (at + slot_size * suc k) (slot n o.0 ++ slots (suc n) s.0) (span-join w at (at + slot_size) (at + slot_size + slot_size * k) (slot n o.0) (slots (suc n) s.0) o.1.0 s.1.1) (omega arith),
+                  span-join B b x e (encode_methods (entity_methods o.0)) (bodies s.0) o.1.1 s.1.2,
+                  (o.1.2, s.1.3),
+                  (o.1.3, s.1.4),
+                ),
+              )
 
-    module _ (complete : (n at b e : ℕ) (o : Entity) → Stands n at b o e → f n at b ≡ e) where
-      pub slots-complete : (h : List Entity) (n at b e : ℕ) (r : List ℕ) → e ≤ bodies_size → drop at w ≡ slots n h ++ r → Spans B b e (bodies h) → EntitiesFit n h → EachFrom E n h
-          → slots_end f (length h) n at b ≡ e
+    module _ (complete : (n at b e : ℕ) (o : Entity) → Stands n at b o e → f n at b ≡ Some e) where
+      pub slots-complete : (h : List Entity) (n at b e : ℕ) (r : List ℕ) → drop at w ≡ slots n h ++ r → Spans B b e (bodies h) → EntitiesFit n h → EachFrom E n h
+          → slots_end f (length h) n at b ≡ Some e
       unfolding slots_end slots bodies
-      slots-complete [] n at b e r l d s g k = omega (arith, s.1)
-      slots-complete (o ∷ h) n at b e r l d s g k =
+      slots-complete [] n at b e r d s g k = ap Some (omega (arith, s.1))
+      slots-complete (o ∷ h) n at b e r d s g k =
           let x = slot n o in
           let y = encode_methods (entity_methods o) in
           let m = b + length y in
@@ -95,6 +99,5 @@ module _ (w B : List ℕ) (E : ℕ → Entity → Type 0) where
           let t : Spans w at (at + slot_size) x = span-end w at (at + length x) (at + slot_size) x (span_of w at x (slots (suc n) h ++ r) c) (omega arith) in
           let c8 : drop (at + slot_size) w ≡ slots (suc n) h ++ r = rw eight at (drop_past w at x (slots (suc n) h ++ r) c) in
           let u = span-split B b m e y (bodies h) refl s in
-          let here : f n at b ≡ m = complete n at b m o (t, u.0, g.0, k.0) in
-          let i : m ≤ bodies_size = omega (arith, u.1.1) in
-          rw (here, le-leb m bodies_size i) (slots-complete h (suc n) (at + slot_size) m e r l c8 u.1 g.1 k.1)
+          let here : f n at b ≡ Some m = complete n at b m o (t, u.0, g.0, k.0) in
+          rw here (slots-complete h (suc n) (at + slot_size) m e r c8 u.1 g.1 k.1)

@@ -1,8 +1,8 @@
 -- A part of which the tests are true is an actor's: what each region was found to hold is put together, and the messages that wait are
 -- given to their futures. Assumes nothing.
-use Rattle.std.specs.Prelude.{ℕ, suc, ◌+◌, ◌-◌, ◌*◌, ◌≤◌, ◌<◌, ◌≡◌, true, List, [], ◌∷◌, ◌++◌, eqb, leb, drop}
+use Rattle.std.specs.Prelude.{ℕ, suc, ◌+◌, ◌-◌, ◌*◌, ◌≤◌, ◌<◌, ◌≡◌, Bool, true, ◌&&◌, Option, Some, None, List, [], ◌∷◌, ◌++◌, eqb, leb, drop}
 use Rattle.std.proofs.Math.Path.{refl, sym, ap}
-use Rattle.std.proofs.Common.{ap₂, ◌∙◌, arith}
+use Rattle.std.proofs.Common.{ap₂, ◌∙◌, true≢false, arith, length-drop, length-take-le}
 use borrow.Author.Tests.{eqb-true, leb-true, le-leb}
 use Rattle.std.proofs.Math.ListN.{length, take, get_or}
 use Rattle.std.proofs.Math.Seq.{slice}
@@ -27,15 +27,20 @@ use Rattle.layout_laws.proofs.Arity.{term-nodes, bodies-nodes}
 use Rattle.layout_laws.specs.Parse.{zeros_at}
 use Rattle.layout_laws.specs.Spans.{Spans, span-join, span-end}
 use Rattle.term_words.specs.Kinds.{allowed, future_by}
-use Rattle.actor.specs.Tests.{arrivals_at, waiters_at, made_end, copied_end, counts_hold, head_holds, expr_holds, inbox_holds, waiting_holds, made_reached, copied_reached, made_holds, copied_holds, bodies_hold, end_holds, heap_holds, rest_holds, part_holds}
+use Rattle.actor.specs.Tests.{ended, arrivals_at, waiters_at, made_end, copied_end, counts_hold, head_holds, expr_holds, inbox_holds, waiting_holds, made_reached, copied_reached, made_holds, copied_holds, bodies_hold, end_holds, heap_holds, rest_holds, part_holds}
 use Rattle.actor.specs.Messages.{InboxIs, inbox-sound, Ordered, WaitingIs, waiting-sound}
 use Rattle.actor.specs.Objects.{Judges}
 use Rattle.actor.specs.Entities.{made-sound, copied-sound}
 use Rattle.actor.specs.Series.{EachFrom, each-whole, SeriesIs, slots-sound}
 use Rattle.actor.specs.Queues.{fill, fill-length, fill-slots, fill-bodies, fill-nodes, fill-queues, fill-fits, fill_holds, slots-kind}
 use Rattle.actor.specs.Orders.{Kinds, ordered-sorted, ordered-waits, ordered-opens}
-use Rattle.actor.specs.Regions.{region-sound, six-words, regions-all, span-out, span-front, tail-zeros}
+use Rattle.actor.specs.Regions.{region-sound, six-words, regions-all, span-within, span-out, span-front, tail-zeros}
 use Rattle.actor.specs.PartContract.{IsPart, Ends}
+
+-- a position that passes is there
+ended-true : (p : ℕ → Bool) (o : Option ℕ) → ended p o ≡ true → (e : ℕ) × (o ≡ Some e) × (p e ≡ true)
+ended-true p None h = absurd (true≢false (sym h))
+ended-true p (Some e) h = (e, refl, h)
 
 no-queues : (E : ℕ → Entity → Type 0) (n : ℕ) (h : List Entity) → EachFrom (λ n o. (is_isolate o ≡ true) × E n o) n h → queues h ≡ []
 unfolding queues
@@ -97,15 +102,17 @@ module _ (K : List ℕ) (a W : ℕ) (w : List ℕ) (few : W ≤ 64) (l : a < own
         rest = r.2;
       }
 
-  expr-sound : (e : ℕ) → Ends K a W (take expr_size (drop expr_at w)) e → Head → expr_holds w e ≡ true → (t : Term) × ExprIs t
+  expr-sound : (o : Option ℕ) → Ends K a W (take expr_size (drop expr_at w)) o → Head → expr_holds w o ≡ true → (t : Term) × ExprIs t
   unfolding expr_holds
-  expr-sound e j g h =
+  expr-sound o j g h =
       let n = get_or w 5 0 in
       let R = take expr_size (drop expr_at w) in
-      let r = and₃ (eqb e n) (leb (nodes_in (slice 0 n R)) 256) (zeros_at w (expr_size - n) (expr_at + n)) h in
-      let d = eqb-true e n r.0 in
+      let r = and₃ (ended (λ e. eqb e n) o) (leb (nodes_in (slice 0 n R)) 256) (zeros_at w (expr_size - n) (expr_at + n)) h in
+      let u = ended-true (λ e. eqb e n) o r.0 in
+      let e = u.0 in
+      let d = eqb-true e n u.2 in
       let k = g.expr in
-      let t = j.sound (omega arith) in
+      let t = j.sound e u.1 in
       let x = encode_term t.0 in
       let s : Spans R 0 n x = span-end R 0 e n x t.1.1 d in
       let nd : nodes t.0 ≡ nodes_in (slice 0 n R) = sym (term-nodes t.0 t.1.0) ∙ ap nodes_in (sym (span-front R n x s)) in
@@ -165,27 +172,28 @@ module _ (K : List ℕ) (a W : ℕ) (w : List ℕ) (few : W ≤ 64) (l : a < own
         small = omega arith;
       }
 
-  heap-sound : (f g : ℕ → ℕ → ℕ) → Judges K a W w (take bodies_size (drop bodies_at w)) few shared f → Judges K a W w (take bodies_size (drop bodies_at w)) few isolated g → Head → heap_holds w K a W f g ≡ true
+  heap-sound : (f g : ℕ → ℕ → Option ℕ) → Judges K a W w (take bodies_size (drop bodies_at w)) few shared f → Judges K a W w (take bodies_size (drop bodies_at w)) few isolated g → Head → heap_holds w K a W f g ≡ true
       → (h : List Entity) × (c : List Entity) × HeapIs h c
   unfolding heap_holds made_holds copied_holds bodies_hold end_holds made_reached copied_reached
   heap-sound f g jf jg t x =
       let B = take bodies_size (drop bodies_at w) in
       let m = get_or w 1 0 in
       let k = get_or w 2 0 in
-      let e = made_reached w K a W f g in
-      let d = copied_reached w K a W f g in
-      let r = and₂ (made_holds w e) (end_holds w d) x in
-      let y = and₂ (copied_holds w d) (bodies_hold w d) r.1 in
-      let p = and₂ (leb e bodies_size) (zeros_at w (made_size - slot_size * m) (made_at + slot_size * m)) r.0 in
-      let q = and₂ (leb d bodies_size) (zeros_at w (copied_size - slot_size * k) (copied_at + slot_size * k)) y.0 in
+      let re = ended-true (λ e. made_holds w && ended (end_holds w) (copied_reached w K a W f g e)) (made_reached w K a W f g) x in
+      let e = re.0 in
+      let r = and₂ (made_holds w) (ended (end_holds w) (copied_reached w K a W f g e)) re.2 in
+      let rd = ended-true (end_holds w) (copied_reached w K a W f g e) r.1 in
+      let d = rd.0 in
+      let y = and₂ (copied_holds w) (bodies_hold w d) rd.2 in
       let u = and₂ (leb (nodes_in (slice 0 d B)) 768) (zeros_at w (bodies_size + rest_size - d) (bodies_at + d)) y.1 in
-      let le = leb-true e bodies_size p.0 in
-      let ld = leb-true d bodies_size q.0 in
       let lm = t.made in
       let lk = t.copied in
-      let sh = slots-sound w B E (made_end K a W w f g) (λ n at b i z y v. made-sound K a W w B few f g jf jg n at b i z y v) m 0 made_at 0 e (omega arith) le refl in
-      let sc = slots-sound w B C (copied_end K a W w f g) (λ n at b i z y v. let o = copied-sound K a W w B few f g jf jg n at b i z y v in (o.0, (o.1.0, o.1.1, o.1.2, (o.2, o.1.3)))) k 0 copied_at e d (omega arith) ld refl in
-      (sh.0, sc.0, heap_of sh.0 sc.0 m k e d refl refl lm lk ld sh.1 sc.1 p.1 q.1 u.1 (leb-true (nodes_in (slice 0 d B)) 768 u.0))
+      let sh = slots-sound w B E (made_end K a W w f g) (λ n at b i z v. made-sound K a W w B few f g jf jg n at b i z v) m 0 made_at 0 e (omega arith) re.1 in
+      let sc = slots-sound w B C (copied_end K a W w f g) (λ n at b i z v. let o = copied-sound K a W w B few f g jf jg n at b i z v in (o.0, (o.1.0, o.1.1, o.1.2, (o.2, o.1.3)))) k 0 copied_at e d (omega arith) rd.1 in
+      let long : length B ≡ bodies_size = length-take-le bodies_size (drop bodies_at w) (omega (arith, length-drop bodies_at w)) in
+      let le = span-within B 0 e (bodies sh.0) sh.1.2 (omega arith) in
+      let ld = span-within B e d (bodies sc.0) sc.1.2 le in
+      (sh.0, sc.0, heap_of sh.0 sc.0 m k e d refl refl lm lk (omega (arith, ld, long)) sh.1 sc.1 r.0 y.0 u.1 (leb-true (nodes_in (slice 0 d B)) 768 u.0))
 
   -- ---- an actor of them
   module _ (t : Term) (i q : List Message) (h c : List Entity) (g : Head) (et : ExprIs t)
@@ -265,7 +273,7 @@ module _ (K : List ℕ) (a W : ℕ) (w : List ℕ) (few : W ≤ 64) (l : a < own
     unfolding IsPart
     is-part = (actor, laid_out, within, holds, fits)
 
-  pub part_sound : (f g : ℕ → ℕ → ℕ) (e : ℕ) → Judges K a W w (take bodies_size (drop bodies_at w)) few shared f → Judges K a W w (take bodies_size (drop bodies_at w)) few isolated g → Ends K a W (take expr_size (drop expr_at w)) e
+  pub part_sound : (f g : ℕ → ℕ → Option ℕ) (e : Option ℕ) → Judges K a W w (take bodies_size (drop bodies_at w)) few shared f → Judges K a W w (take bodies_size (drop bodies_at w)) few isolated g → Ends K a W (take expr_size (drop expr_at w)) e
       → part_holds w K a W f g e ≡ true → IsPart K a W w
   unfolding part_holds rest_holds
   part_sound f g e jf jg je x =

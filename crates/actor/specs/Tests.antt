@@ -1,7 +1,9 @@
 -- What the code computes of the words of a part, test by test, as the words alone tell it. Nothing here need be believed: by `Sound`
 -- and `Complete` the last test is true of the words of an actor that holds its conditions, and of no others. A slot is judged by where
--- its methods end among the bodies, which is a number above all of them where it fails. Assumes nothing.
-use Rattle.std.specs.Prelude.{ℕ, zero, suc, ◌+◌, ◌-◌, ◌*◌, ◌/◌, ◌%◌, Bool, true, ◌&&◌, not, cond, List, [], ◌∷◌, take, drop, get_or, eqb, ltb, leb}
+-- its methods end among the bodies, if it holds. Assumes nothing.
+use Rattle.std.specs.Prelude.{ℕ, zero, suc, ◌+◌, ◌-◌, ◌*◌, ◌/◌, ◌%◌, Bool, true, false, ◌&&◌, not, cond, Option, Some, None, List, [], ◌∷◌, take, drop, get_or, eqb, ltb, leb}
+use Rattle.std.specs.Bool.{then_some}
+use Rattle.std.specs.Option.{option_and_then}
 use Rattle.std.proofs.Math.Seq.{slice}
 use Rattle.atlite.specs.Base.{member, all}
 use Rattle.atlite.specs.Term.{made, ref, top}
@@ -12,6 +14,8 @@ use Rattle.layout_laws.specs.Arity.{nodes_in}
 use Rattle.layout_laws.specs.Parse.{value_at, values_at, zeros_at}
 use Rattle.term_words.specs.Kinds.{allowed, future_by}
 use Rattle.term_words.specs.Words.{within, send_in}
+use Rattle.actor.specs.declared.slots.Series.{Series}
+use Rattle.actor.specs.declared.slots.Series.TheVariants.{Made, Copied}
 
 -- c names in seven bits each, none of them twice, and nothing behind them
 unfoldable pub names_hold : ℕ → ℕ → ℕ → Bool
@@ -26,9 +30,10 @@ low x = x % payload
 abbrev pub arguments : ℕ → ℕ
 arguments x = low x / name_limit / tag_limit
 
--- a position, if a test is true
-abbrev pub end_if : Bool → ℕ → ℕ
-end_if t b = cond t b 4096
+-- there is a position, and it passes a test
+abbrev pub ended : (ℕ → Bool) → Option ℕ → Bool
+ended p None = false
+ended p (Some e) = p e
 
 -- a slot of neither fields nor methods
 unfoldable pub plain_at : List ℕ → ℕ → Bool
@@ -91,32 +96,40 @@ module _ (K : List ℕ) (a W : ℕ) (w : List ℕ) where
       && zeros_at w (4 - f) (at + 2 + f)
 
   -- an object or an isolate whose methods begin at b and end at e
-  unfoldable pub object_end : ℕ → ℕ → ℕ → ℕ
-  object_end at b e = cond (fields_at (get_or w at 0 / digit_limit % digit_limit) at && eqb (get_or w (at + 7) 0) 0 && eqb (b + get_or w (at + slot_body) 0) e) e 4096
+  unfoldable pub object_at : ℕ → ℕ → ℕ → Bool
+  object_at at b e = fields_at (get_or w at 0 / digit_limit % digit_limit) at && eqb (get_or w (at + 7) 0) 0 && eqb (b + get_or w (at + slot_body) 0) e
+
+  -- where its methods end, by where such methods do
+  unfoldable pub object_end : ℕ → ℕ → Option ℕ → Option ℕ
+  object_end at b o = option_and_then (λ e. then_some (object_at at b e) e) o
 
   -- the n-th slot, at `at`, of series m and of series c; f and g tell where the methods of an object and of an isolate end
-  module _ (f g : ℕ → ℕ → ℕ) where
-    abbrev pub slot_forms : ℕ → ℕ → ℕ → List ℕ
+  module _ (f g : ℕ → ℕ → Option ℕ) where
+    abbrev pub slot_forms : ℕ → ℕ → ℕ → List (Option ℕ)
     slot_forms m at b =
-        4096
+        None
         ∷ object_end at b (f m b)
         ∷ object_end at b (g m b)
-        ∷ end_if (open_at w at) b
-        ∷ end_if (settled_at K a w at) b
-        ∷ end_if (resolver_at K a w at) b
+        ∷ then_some (open_at w at) b
+        ∷ then_some (settled_at K a w at) b
+        ∷ then_some (resolver_at K a w at) b
         ∷ []
 
-    unfoldable pub made_end : ℕ → ℕ → ℕ → ℕ
-    made_end n at b = cond (eqb (get_or w at 0 / slot_unit) n) (get_or (slot_forms (get_or w at 0 / digits_limit % digit_limit) at b) (get_or w at 0 % digit_limit) 4096) 4096
+    unfoldable pub made_end : ℕ → ℕ → ℕ → Option ℕ
+    made_end n at b = cond (eqb (get_or w at 0 / slot_unit) n) (get_or (slot_forms (get_or w at 0 / digits_limit % digit_limit) at b) (get_or w at 0 % digit_limit) None) None
 
-    unfoldable pub copied_end : ℕ → ℕ → ℕ → ℕ
+    unfoldable pub copied_end : ℕ → ℕ → ℕ → Option ℕ
     copied_end n at b =
-        cond (eqb (get_or w at 0 / slot_unit) n && eqb (get_or w at 0 % digit_limit) 2) (object_end at b (g (get_or w at 0 / digits_limit % digit_limit) b)) 4096
+        cond (eqb (get_or w at 0 / slot_unit) n && eqb (get_or w at 0 % digit_limit) 2) (object_end at b (g (get_or w at 0 / digits_limit % digit_limit) b)) None
+
+    abbrev pub slot_end : Series → ℕ → ℕ → ℕ → Option ℕ
+    slot_end Made = made_end
+    slot_end Copied = copied_end
 
 -- k slots from the n-th on, each judged by f
-unfoldable pub slots_end : (ℕ → ℕ → ℕ → ℕ) → ℕ → ℕ → ℕ → ℕ → ℕ
-slots_end f zero n at b = b
-slots_end f (suc k) n at b = cond (leb (f n at b) bodies_size) (slots_end f k (suc n) (at + slot_size) (f n at b)) 4096
+unfoldable pub slots_end : (ℕ → ℕ → ℕ → Option ℕ) → ℕ → ℕ → ℕ → ℕ → Option ℕ
+slots_end f zero n at b = Some b
+slots_end f (suc k) n at b = option_and_then (slots_end f k (suc n) (at + slot_size)) (f n at b)
 
 -- ---- the regions of a part
 -- each with zeros behind what it holds
@@ -129,23 +142,23 @@ module _ (w : List ℕ) where
   head_holds = leb (get_or w 0 0) top && counts_hold && zeros_at w 10 6
 
   -- an expression that ends at e
-  unfoldable pub expr_holds : ℕ → Bool
-  expr_holds e =
+  unfoldable pub expr_holds : Option ℕ → Bool
+  expr_holds o =
       let n = get_or w 5 0 in
-      eqb e n && leb (nodes_in (slice 0 n (take expr_size (drop expr_at w)))) 256 && zeros_at w (expr_size - n) (16 + n)
+      ended (λ e. eqb e n) o && leb (nodes_in (slice 0 n (take expr_size (drop expr_at w)))) 256 && zeros_at w (expr_size - n) (16 + n)
 
-  -- series m and series c, whose methods end at e and at d
-  unfoldable pub made_holds : ℕ → Bool
-  made_holds e = leb e bodies_size && zeros_at w (made_size - slot_size * get_or w 1 0) (made_at + slot_size * get_or w 1 0)
+  -- what stands behind the slots of series m and of series c, whose methods end at d
+  unfoldable pub made_holds : Bool
+  made_holds = zeros_at w (made_size - slot_size * get_or w 1 0) (made_at + slot_size * get_or w 1 0)
 
-  unfoldable pub copied_holds : ℕ → Bool
-  copied_holds d = leb d bodies_size && zeros_at w (copied_size - slot_size * get_or w 2 0) (copied_at + slot_size * get_or w 2 0)
+  unfoldable pub copied_holds : Bool
+  copied_holds = zeros_at w (copied_size - slot_size * get_or w 2 0) (copied_at + slot_size * get_or w 2 0)
 
   unfoldable pub bodies_hold : ℕ → Bool
   bodies_hold d = leb (nodes_in (slice 0 d (take bodies_size (drop bodies_at w)))) 768 && zeros_at w (bodies_size + rest_size - d) (bodies_at + d)
 
   unfoldable pub end_holds : ℕ → Bool
-  end_holds d = copied_holds d && bodies_hold d
+  end_holds d = copied_holds && bodies_hold d
 
   module _ (K : List ℕ) (a W : ℕ) where
     unfoldable pub inbox_holds : Bool
@@ -155,23 +168,23 @@ module _ (w : List ℕ) where
     waiting_holds = let n = get_or w 4 0 in waiters_at K a W w (get_or w 1 0) n 0 waiting_at && zeros_at w (queue_size - message_size * n) (waiting_at + message_size * n)
 
     -- both series; f and g tell where methods end among the bodies
-    module _ (f g : ℕ → ℕ → ℕ) where
-      unfoldable pub made_reached : ℕ
+    module _ (f g : ℕ → ℕ → Option ℕ) where
+      unfoldable pub made_reached : Option ℕ
       made_reached = slots_end (made_end K a W w f g) (get_or w 1 0) 0 made_at 0
 
-      unfoldable pub copied_reached : ℕ
-      copied_reached = slots_end (copied_end K a W w f g) (get_or w 2 0) 0 copied_at made_reached
+      unfoldable pub copied_reached : ℕ → Option ℕ
+      copied_reached e = slots_end (copied_end K a W w f g) (get_or w 2 0) 0 copied_at e
 
       unfoldable pub heap_holds : Bool
-      heap_holds = made_holds made_reached && end_holds copied_reached
+      heap_holds = ended (λ e. made_holds && ended end_holds (copied_reached e)) made_reached
 
-      -- all but the head and the expression, and all of a part whose expression ends at e
+      -- all but the head and the expression, and all of a part whose expression ends there
       unfoldable pub rest_holds : Bool
       rest_holds = inbox_holds && waiting_holds && heap_holds
 
-      unfoldable pub part_holds : ℕ → Bool
-      part_holds e = head_holds && expr_holds e && rest_holds
+      unfoldable pub part_holds : Option ℕ → Bool
+      part_holds o = head_holds && expr_holds o && rest_holds
 
 unfoldable pub Tests : Unit {0}
-unfolding names_hold sent_at arrived_at arrivals_at waits_at waiters_at fields_at object_end plain_at open_at settled_at resolver_at made_end copied_end slots_end counts_hold head_holds expr_holds made_holds copied_holds bodies_hold end_holds inbox_holds waiting_holds made_reached copied_reached heap_holds rest_holds part_holds
+unfolding names_hold sent_at arrived_at arrivals_at waits_at waiters_at fields_at object_at object_end plain_at open_at settled_at resolver_at made_end copied_end slots_end counts_hold head_holds expr_holds made_holds copied_holds bodies_hold end_holds inbox_holds waiting_holds made_reached copied_reached heap_holds rest_holds part_holds
 Tests = tt

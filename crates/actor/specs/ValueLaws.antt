@@ -1,7 +1,8 @@
 -- What each way through the functions over zeros, values and names returns. Assumes nothing.
-use Rattle.std.specs.Prelude.{ℕ, suc, ◌+◌, ◌-◌, ◌≤◌, ◌<◌, ◌/◌, ◌%◌, ◌≡◌, refl, Bool, true, false, ◌&&◌, not, List, ◌++◌, eqb, length, take, drop, get_or, if◌then◌else◌}
+use Rattle.std.specs.List.{list_all}
+use Rattle.std.specs.Prelude.{ℕ, zero, suc, ◌+◌, ◌-◌, ◌≤◌, ◌<◌, ◌/◌, ◌%◌, ◌≡◌, refl, Bool, true, false, ◌&&◌, not, List, ◌++◌, eqb, length, take, drop, get_or, if◌then◌else◌}
 use Rattle.std.proofs.Math.Path.{sym}
-use Rattle.std.proofs.Common.{ap, ◌∙◌, rules, take-append-drop, length-drop, length-take-le, take_at}
+use Rattle.std.proofs.Common.{ap, ◌∙◌, rules, add-one, drop-cons, take-append-drop, length-drop, length-take-le, take_at}
 use Rattle.std.proofs.Math.Option.{Option, none, some}
 use native.Mathlib.Omega.{arith}
 use borrow.Author.Tests.{eq-eqb, ne_eqb}
@@ -44,7 +45,7 @@ module _ (w : List ℕ) (at n : ℕ) (l : at + n ≤ length w) where
       go false true e s = s.complete (zeros-part e)
       go false false e s = refl
 
-pub ruleset zeros-laws = (rules, zeros-return)
+pub ruleset zeros_laws = (rules, zeros-return)
 
 -- ---- values
 within-before : (p : Value → Bool) (o : Option Value) (l : Option (List Value)) → within (all p) (before o l) ≡ (within p o && within (all p) l)
@@ -57,35 +58,20 @@ within-before p (some v) none = and-false (p v)
     and-false false = refl
 within-before p (some v) (some vs) = refl
 
--- whether the actor a may hold the n values at `at`
-abbrev held : List ℕ → ℕ → List ℕ → ℕ → ℕ → Bool
-held K a w n at = within (all (allowed K a)) (values_at w n at)
+-- one by one
+module _ (K : List ℕ) (a : ℕ) (w : List ℕ) where
+  values-listed : (n at : ℕ) → at + n ≤ length w → list_all (λ x. within (holds true K a) (value_at x)) (take n (drop at w)) ≡ within (all (allowed K a)) (values_at w n at)
+  unfolding values_at all within holds
+  values-listed zero at l = refl
+  values-listed (suc n) at l =
+      let h : at < length w = omega arith in
+      rw (drop-cons w at 0 h, ← add-one at)
+      (ap (λ b. within (allowed K a) (value_at (get_or w at 0)) && b) (values-listed n (at + 1) (omega arith)) ∙ sym (within-before (allowed K a) (value_at (get_or w at 0)) (values_at w n (at + 1))))
 
--- the values that are left decide of all
-pub record Left (K : List ℕ) (a : ℕ) (w : List ℕ) (n at left i : ℕ) : Type 0 where
-  pub is : held K a w n at ≡ held K a w left i
+  pub values-return : (n at : ℕ) (r : Bool) → at + n ≤ length w → r ≡ list_all (λ x. within (holds true K a) (value_at x)) (take (at + n - at) (drop at w)) → r ≡ within (all (allowed K a)) (values_at w n at)
+  values-return n at r l h = let z : at + n - at ≡ n = omega arith in rw z at h ∙ values-listed n at l
 
-module _ (K : List ℕ) (a : ℕ) (w : List ℕ) (n at : ℕ) where
-  pub values-start : Left K a w n at n at
-  values-start = record { is = refl }
-
-  module _ (left i : ℕ) (h : Left K a w n at left i) where
-    pub values-end : left ≤ 0 → true ≡ within (all (allowed K a)) (values_at w n at)
-    unfolding within values_at all
-    values-end z = let e : left ≡ 0 = omega arith in sym (h.is ∙ rw e)
-
-    module _ (z : 0 < left) (v : Bool) (e : v ≡ within (holds true K a) (value_at (get_or w i 0))) where
-      step : (m : ℕ) → left ≡ suc m → held K a w left i ≡ (v && held K a w m (i + 1))
-      unfolding values_at holds
-      step m k = rw (k, e) (within-before (allowed K a) (value_at (get_or w i 0)) (values_at w m (i + 1)))
-
-      pub values-stop : v ≡ false → false ≡ within (all (allowed K a)) (values_at w n at)
-      values-stop t = sym (h.is ∙ step (left - 1) (omega arith) ∙ rw t)
-
-      pub values-next : v ≡ true → Left K a w n at (left - 1) (i + 1)
-      values-next t = record { is = h.is ∙ step (left - 1) (omega arith) ∙ rw t }
-
-pub ruleset values-laws = (rules, values-start, values-end, values-stop, values-next)
+pub ruleset values_laws = (rules, values-return)
 
 -- ---- names
 module _ (x n y : ℕ) where
@@ -104,7 +90,7 @@ module _ (x n y : ℕ) where
     pub among-more : (y ≡ x % name_limit → ⊥) → (r : Bool) → r ≡ member y (names_in (n - 1) (x / name_limit)) → r ≡ member y (names_in n x)
     among-more e r h = rw (step-among (n - 1) (omega arith), ne_eqb y (x % name_limit) e) h
 
-pub ruleset among-laws = (rules, among_none, among-here, among-more)
+pub ruleset among_laws = (rules, among_none, among-here, among-more)
 
 module _ (W x n : ℕ) where
   pub names-none : n ≡ 0 → eqb x 0 ≡ names_hold W n x
@@ -126,4 +112,4 @@ module _ (W x n : ℕ) where
       pub names_more : u ≡ false → (r : Bool) → r ≡ names_hold W (n - 1) (x / name_limit) → r ≡ names_hold W n x
       names_more s r h = rw (step-names (n - 1) (omega arith), t, ← d, s) h
 
-pub ruleset names-laws = (rules, names-none, names-other, names-twice, names_more)
+pub ruleset names_laws = (rules, names-none, names-other, names-twice, names_more)

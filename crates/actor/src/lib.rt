@@ -1,8 +1,7 @@
 // Whether words are an actor's part of a state.
 //
-// Each region is judged by its own words and the kinds of the entities of the whole state. What fails is told by false, or, where a
-// position is the answer, by a number above the words of all methods. The messages that wait are not shared out to the slots: they stand
-// in order of their futures, so it is enough that each names a slot that says it is an open future.
+// Each region is judged by its own words and the kinds of the entities of the whole state. The messages that wait are not shared out to the
+// slots: they stand in order of their futures, so it is enough that each names a slot that says it is an open future.
 #![tactic(auto)]
 
 mod messages;

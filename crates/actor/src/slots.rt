@@ -1,283 +1,205 @@
 // The entities of an actor, each in a slot of eight words. A slot is judged by where its methods end, which is where those of the next
 // begin.
-ghost use Rattle.std.specs.Prelude.{◌≡◌, true, false, ◌||◌, ◌+◌, ◌*◌, ◌/◌, ◌%◌, ◌≤◌, ◌<◌, eqb, length, get_or};
+ghost use Rattle.std.specs.Prelude.{◌≡◌, true, false, ◌||◌, ◌+◌, ◌*◌, ◌/◌, ◌%◌, ◌≤◌, eqb, length, get_or, take, drop};
+ghost use Rattle.std.specs.Option.{IfSome};
 ghost use Rattle.atlite.specs.Term.{made as series_m, ref};
-ghost use Rattle.layout.specs.Numbers.{digit_limit, digits_limit, slot_size, bodies_size};
+ghost use Rattle.layout.specs.Numbers.{digit_limit, digits_limit, slot_size, bodies_size, bodies_at};
 ghost use Rattle.layout_laws.specs.Parse.{value_at};
 ghost use Rattle.term_words.specs.Kinds.{future_by};
 ghost use Rattle.term_words.specs.Words.{within};
-ghost use Rattle.actor.specs.Tests.{fields_at, object_end, end_if, plain_at, open_at, settled_at, resolver_at, made_end, copied_end, slots_end};
+ghost use Rattle.actor.specs.Tests.{fields_at, object_at, object_end, plain_at, open_at, settled_at, resolver_at, made_end, copied_end, slot_end, slots_end};
 ghost use Rattle.actor.specs.Bodies.{methods_reach};
 
+use crate::part::Part;
 use crate::values;
-use layout::{BODIES_SIZE, DIGIT, DIGITS, PAYLOAD, SLOT, SLOT_BODY, SLOT_UNIT, STATE_SLOTS};
+use layout::{BODIES, DIGIT, DIGITS, PAYLOAD, REST, SLOT, SLOT_BODY, SLOT_UNIT};
+use term_words::word;
+use wellformed::Terms;
 
-// The answer where no entity is.
-const FAIL: usize = 4096;
+// The two series of an actor's entities: those that it made, and copies that arrived, which are isolates alone.
+#[derive(Clone, Copy)]
+pub enum Series {
+    Made,
+    Copied,
+}
 
 // The kinds of a future, open or with its value.
 fn is_future(k: u8) -> bool
     ensures { result ≡ (eqb k 3 || eqb k 4) }
 {
-    match k {
-        3 => true,
-        4 => true,
-        _ => false,
-    }
-}
-
-// Whether the word `x` is a reference to a future.
-fn future(x: u32, kinds: &[u8; STATE_SLOTS]) -> bool
-    ensures { result ≡ within (future_by kinds.now) (value_at x) }
-{
-    if x / PAYLOAD != 3 {
-        return false;
-    }
-    is_future(term_words::word::kind_of(x % PAYLOAD, kinds))
-}
-
-// Whether the entity `n` that the actor `a` made is a future.
-fn own_future(n: u32, a: u32, kinds: &[u8; STATE_SLOTS]) -> bool
-    requires { a < 4 }
-    ensures { result ≡ future_by kinds.now (ref a series_m n) }
-{
-    if 32 <= n {
-        return false;
-    }
-    is_future(kinds[(term_words::word::SLOTS * a + n) as usize])
-}
-
-// The `n` fields of the slot at `at`.
-fn fields(w: &[u32], at: usize, n: usize, a: u32, words: u32, kinds: &[u8; STATE_SLOTS]) -> bool
-    requires { (at + slot_size ≤ length w.now) × (words ≤ 64) }
-    ensures { result ≡ fields_at kinds.now a words w.now n at }
-{
-    if 5 <= n {
-        return false;
-    }
-    if values::names(w[at + 1], n, words) {
-        if values::values(w, at + 2, n, a, kinds) {
-            return values::zeros(w, at + 2 + n, 4 - n);
-        }
-        return false;
-    }
-    false
+    k == 3 || k == 4
 }
 
 // A word as a position.
 fn wide(x: u32) -> usize
-    ensures { (result ≡ x) × (result < 4294967296) }
+    ensures { (result ≡ x) × (result ≤ 4294967295) }
 {
     x as usize
 }
 
-// An object or an isolate in the slot at `at`: only an object's methods may refer. They begin at `b`, and the slot has their words.
-fn object(
-    w: &[u32],
-    at: usize,
-    bodies: &[u32],
-    b: usize,
-    refs: bool,
-    a: u32,
-    words: u32,
-    kinds: &[u8; STATE_SLOTS],
-) -> usize
-    requires { (at + slot_size ≤ length w.now) × (words ≤ 64) × (length bodies.now ≤ bodies_size) × (b ≤ bodies_size) }
-    ensures { result ≡ object_end kinds.now a words w.now at b (methods_reach refs kinds.now a words bodies.now (get_or w.now at 0 / digits_limit % digit_limit) b) }
-{
-    let e = wellformed::methods(
-        bodies,
-        b,
-        (w[at] / DIGITS % DIGIT) as usize,
-        kinds,
-        a,
-        words,
-        refs,
-    );
-    if fields(w, at, (w[at] / DIGIT % DIGIT) as usize, a, words, kinds) {
-        if w[at + 7] != 0 {
-            return FAIL;
+impl Part<'_> {
+    // Whether the word `x` is a reference to a future.
+    #[tactic(auto, using(crate::specs::SlotLaws::future_laws))]
+    fn future(&self, x: u32) -> bool
+        ensures { result ≡ within (future_by self.now.owner.kinds.now) (value_at x) }
+    {
+        if x / PAYLOAD != 3 {
+            return false;
         }
-        let size = wide(w[at + SLOT_BODY]);
-        if b + size == e {
-            return e;
+        match self.owner.kind_of(x % PAYLOAD) {
+            Some(k) => is_future(k),
+            None => false,
         }
-        return FAIL;
     }
-    FAIL
-}
 
-// Neither fields nor methods.
-fn plain(w: &[u32], at: usize) -> bool
-    requires { at + slot_size ≤ length w.now }
-    ensures { result ≡ plain_at w.now at }
-{
-    if w[at] / DIGIT % DIGITS != 0 {
-        return false;
+    // Whether the entity `n` that the actor made is a future.
+    #[tactic(auto, using(crate::specs::SlotLaws::own_laws))]
+    fn own_future(&self, n: u32) -> bool
+        ensures { result ≡ future_by self.now.owner.kinds.now (ref self.now.owner.actor series_m n) }
+    {
+        n < 32 && is_future(self.owner.kinds[(word::SLOTS * self.owner.actor + n) as usize])
     }
-    w[at + 1] == 0
-}
 
-// An open future.
-fn open(w: &[u32], at: usize) -> bool
-    requires { at + slot_size ≤ length w.now }
-    ensures { result ≡ open_at w.now at }
-{
-    if plain(w, at) {
-        return values::zeros(w, at + 2, 6);
+    // The `n` fields of the slot at `at`.
+    #[tactic(auto, unfolding(crate::specs::Tests::fields_at))]
+    fn fields(&self, at: usize, n: usize) -> bool
+        requires { at + slot_size ≤ length self.now.words.now }
+        ensures { result ≡ fields_at self.now.owner.kinds.now self.now.owner.actor self.now.owner.words self.now.words.now n at }
+    {
+        n < 5
+            && values::names(self.words[at + 1], n, &self.owner)
+            && self.values(at + 2, n)
+            && values::zeros(self.words, at + 2 + n, 4 - n)
     }
-    false
-}
 
-// A future with its value, which is no future.
-fn settled(w: &[u32], at: usize, a: u32, kinds: &[u8; STATE_SLOTS]) -> bool
-    requires { at + slot_size ≤ length w.now }
-    ensures { result ≡ settled_at kinds.now a w.now at }
-{
-    if plain(w, at) {
-        if wellformed::value(w[at + 2], kinds, a, true) {
-            if future(w[at + 2], kinds) {
-                return false;
-            }
-            return values::zeros(w, at + 3, 5);
+    // Whether an object or an isolate stands in the slot at `at` whose methods begin at `b` and end at `e`: the slot has how many words those are.
+    #[tactic(auto, unfolding(crate::specs::Tests::object_at))]
+    fn is_object(&self, at: usize, b: usize, e: usize) -> bool
+        requires { (at + slot_size ≤ length self.now.words.now) × (b ≤ bodies_size) }
+        ensures { result ≡ object_at self.now.owner.kinds.now self.now.owner.actor self.now.owner.words self.now.words.now at b e }
+    {
+        self.fields(at, (self.words[at] / DIGIT % DIGIT) as usize)
+            && self.words[at + 7] == 0
+            && b + wide(self.words[at + SLOT_BODY]) == e
+    }
+
+    // Where the methods end of the object or isolate in the slot at `at`. They begin at `b`, and only an object's may refer.
+    #[tactic(auto, using(crate::specs::SlotLaws::object_laws))]
+    fn object(&self, at: usize, b: usize, refs: bool) -> Option<usize>
+        requires { (at + slot_size ≤ length self.now.words.now) × (b ≤ bodies_size) }
+        ensures value { result ≡ object_end self.now.owner.kinds.now self.now.owner.actor self.now.owner.words self.now.words.now at b (methods_reach refs self.now.owner.kinds.now self.now.owner.actor self.now.owner.words (take bodies_size (drop bodies_at self.now.words.now)) (get_or self.now.words.now at 0 / digits_limit % digit_limit) b) }
+        ensures short { IfSome result (λ e. e ≤ bodies_size) }
+    {
+        let bodies = Terms {
+            words: &self.words[BODIES..REST],
+            owner: self.owner,
+        };
+        let e = bodies.methods(b, (self.words[at] / DIGITS % DIGIT) as usize, refs)?;
+        self.is_object(at, b, e).then_some(e)
+    }
+
+    // Neither fields nor methods.
+    #[tactic(auto, unfolding(crate::specs::Tests::plain_at))]
+    fn plain(&self, at: usize) -> bool
+        requires { at + slot_size ≤ length self.now.words.now }
+        ensures { result ≡ plain_at self.now.words.now at }
+    {
+        self.words[at] / DIGIT % DIGITS == 0 && self.words[at + 1] == 0
+    }
+
+    // An open future.
+    #[tactic(auto, unfolding(crate::specs::Tests::open_at))]
+    fn open(&self, at: usize) -> bool
+        requires { at + slot_size ≤ length self.now.words.now }
+        ensures { result ≡ open_at self.now.words.now at }
+    {
+        self.plain(at) && values::zeros(self.words, at + 2, 6)
+    }
+
+    // A future with its value, which is no future.
+    #[tactic(auto, unfolding(crate::specs::Tests::settled_at, term_words::specs::Words::holds))]
+    fn settled(&self, at: usize) -> bool
+        requires { at + slot_size ≤ length self.now.words.now }
+        ensures { result ≡ settled_at self.now.owner.kinds.now self.now.owner.actor self.now.words.now at }
+    {
+        let x = self.words[at + 2];
+        self.plain(at)
+            && self.owner.value(x, true)
+            && !self.future(x)
+            && values::zeros(self.words, at + 3, 5)
+    }
+
+    // A resolver of a future of this actor.
+    #[tactic(auto, unfolding(crate::specs::Tests::resolver_at))]
+    fn resolver(&self, at: usize) -> bool
+        requires { at + slot_size ≤ length self.now.words.now }
+        ensures { result ≡ resolver_at self.now.owner.kinds.now self.now.owner.actor self.now.words.now at }
+    {
+        self.plain(at)
+            && self.own_future(self.words[at + 2])
+            && values::zeros(self.words, at + 3, 5)
+    }
+
+    // The slot at `at`, the `n`-th of series m.
+    #[tactic(auto, using(crate::specs::SlotLaws::made_laws))]
+    fn made(&self, at: usize, n: u32, b: usize) -> Option<usize>
+        requires { (at + slot_size ≤ length self.now.words.now) × (b ≤ bodies_size) }
+        ensures value { result ≡ made_end self.now.owner.kinds.now self.now.owner.actor self.now.owner.words self.now.words.now (methods_reach true self.now.owner.kinds.now self.now.owner.actor self.now.owner.words (take bodies_size (drop bodies_at self.now.words.now))) (methods_reach false self.now.owner.kinds.now self.now.owner.actor self.now.owner.words (take bodies_size (drop bodies_at self.now.words.now))) n at b }
+        ensures short { IfSome result (λ e. e ≤ bodies_size) }
+    {
+        if self.words[at] / SLOT_UNIT != n {
+            return None;
         }
-        return false;
-    }
-    false
-}
-
-// A resolver of a future of this actor.
-fn resolver(w: &[u32], at: usize, a: u32, kinds: &[u8; STATE_SLOTS]) -> bool
-    requires { (at + slot_size ≤ length w.now) × (a < 4) }
-    ensures { result ≡ resolver_at kinds.now a w.now at }
-{
-    if plain(w, at) {
-        if own_future(w[at + 2], a, kinds) {
-            return values::zeros(w, at + 3, 5);
+        match self.words[at] % DIGIT {
+            1 => self.object(at, b, true),
+            2 => self.object(at, b, false),
+            3 => self.open(at).then_some(b),
+            4 => self.settled(at).then_some(b),
+            5 => self.resolver(at).then_some(b),
+            _ => None,
         }
-        return false;
     }
-    false
-}
 
-// `b`, if the test was passed.
-fn end_if(ok: bool, b: usize) -> usize
-    ensures { result ≡ end_if ok b }
-{
-    if ok {
-        return b;
-    }
-    FAIL
-}
-
-// The slot at `at`, the `n`-th of series m.
-fn made_slot(
-    w: &[u32],
-    at: usize,
-    n: u32,
-    bodies: &[u32],
-    b: usize,
-    a: u32,
-    words: u32,
-    kinds: &[u8; STATE_SLOTS],
-) -> usize
-    requires { (at + slot_size ≤ length w.now) × (words ≤ 64) × (a < 4) × (length bodies.now ≤ bodies_size) × (b ≤ bodies_size) }
-    ensures { result ≡ made_end kinds.now a words w.now (methods_reach true kinds.now a words bodies.now) (methods_reach false kinds.now a words bodies.now) n at b }
-{
-    if w[at] / SLOT_UNIT != n {
-        return FAIL;
-    }
-    match w[at] % DIGIT {
-        1 => object(w, at, bodies, b, true, a, words, kinds),
-        2 => object(w, at, bodies, b, false, a, words, kinds),
-        3 => end_if(open(w, at), b),
-        4 => end_if(settled(w, at, a, kinds), b),
-        5 => end_if(resolver(w, at, a, kinds), b),
-        _ => FAIL,
-    }
-}
-
-// The slot at `at`, the `n`-th of series c, which has isolates alone.
-fn copied_slot(
-    w: &[u32],
-    at: usize,
-    n: u32,
-    bodies: &[u32],
-    b: usize,
-    a: u32,
-    words: u32,
-    kinds: &[u8; STATE_SLOTS],
-) -> usize
-    requires { (at + slot_size ≤ length w.now) × (words ≤ 64) × (a < 4) × (length bodies.now ≤ bodies_size) × (b ≤ bodies_size) }
-    ensures { result ≡ copied_end kinds.now a words w.now (methods_reach true kinds.now a words bodies.now) (methods_reach false kinds.now a words bodies.now) n at b }
-{
-    if w[at] / SLOT_UNIT != n {
-        return FAIL;
-    }
-    if w[at] % DIGIT != 2 {
-        return FAIL;
-    }
-    object(w, at, bodies, b, false, a, words, kinds)
-}
-
-// The `k` slots at `at` of series m, from the `n`-th on, whose methods begin at `b`.
-pub fn made(
-    w: &[u32],
-    at: usize,
-    n: u32,
-    k: usize,
-    bodies: &[u32],
-    b: usize,
-    a: u32,
-    words: u32,
-    kinds: &[u8; STATE_SLOTS],
-) -> usize
-    requires { (at + slot_size * k ≤ length w.now) × (n + k ≤ 32) × (words ≤ 64) × (a < 4) × (length bodies.now ≤ bodies_size) × (b ≤ bodies_size) }
-    ensures { result ≡ slots_end (made_end kinds.now a words w.now (methods_reach true kinds.now a words bodies.now) (methods_reach false kinds.now a words bodies.now)) k n at b }
-{
-    let mut i = at;
-    let mut m = n;
-    let mut left = k;
-    let mut e = b;
-    while 0 < left {
-        e = made_slot(w, i, m, bodies, e, a, words, kinds);
-        if BODIES_SIZE < e {
-            return FAIL;
+    // The slot at `at`, the `n`-th of series c, which has isolates alone.
+    #[tactic(auto, using(crate::specs::SlotLaws::copied_laws))]
+    fn copied(&self, at: usize, n: u32, b: usize) -> Option<usize>
+        requires { (at + slot_size ≤ length self.now.words.now) × (b ≤ bodies_size) }
+        ensures value { result ≡ copied_end self.now.owner.kinds.now self.now.owner.actor self.now.owner.words self.now.words.now (methods_reach true self.now.owner.kinds.now self.now.owner.actor self.now.owner.words (take bodies_size (drop bodies_at self.now.words.now))) (methods_reach false self.now.owner.kinds.now self.now.owner.actor self.now.owner.words (take bodies_size (drop bodies_at self.now.words.now))) n at b }
+        ensures short { IfSome result (λ e. e ≤ bodies_size) }
+    {
+        if self.words[at] / SLOT_UNIT != n {
+            return None;
         }
-        i += SLOT;
-        m += 1;
-        left -= 1;
-    }
-    e
-}
-
-// The same of series c.
-pub fn copied(
-    w: &[u32],
-    at: usize,
-    n: u32,
-    k: usize,
-    bodies: &[u32],
-    b: usize,
-    a: u32,
-    words: u32,
-    kinds: &[u8; STATE_SLOTS],
-) -> usize
-    requires { (at + slot_size * k ≤ length w.now) × (n + k ≤ 32) × (words ≤ 64) × (a < 4) × (length bodies.now ≤ bodies_size) × (b ≤ bodies_size) }
-    ensures { result ≡ slots_end (copied_end kinds.now a words w.now (methods_reach true kinds.now a words bodies.now) (methods_reach false kinds.now a words bodies.now)) k n at b }
-{
-    let mut i = at;
-    let mut m = n;
-    let mut left = k;
-    let mut e = b;
-    while 0 < left {
-        e = copied_slot(w, i, m, bodies, e, a, words, kinds);
-        if BODIES_SIZE < e {
-            return FAIL;
+        if self.words[at] % DIGIT != 2 {
+            return None;
         }
-        i += SLOT;
-        m += 1;
-        left -= 1;
+        self.object(at, b, false)
     }
-    e
+
+    // The slot at `at`, the `n`-th of its series.
+    #[tactic(auto, using(crate::specs::SlotLaws::slot_laws))]
+    fn slot(&self, at: usize, n: u32, b: usize, series: Series) -> Option<usize>
+        requires { (at + slot_size ≤ length self.now.words.now) × (b ≤ bodies_size) }
+        ensures value { result ≡ slot_end self.now.owner.kinds.now self.now.owner.actor self.now.owner.words self.now.words.now (methods_reach true self.now.owner.kinds.now self.now.owner.actor self.now.owner.words (take bodies_size (drop bodies_at self.now.words.now))) (methods_reach false self.now.owner.kinds.now self.now.owner.actor self.now.owner.words (take bodies_size (drop bodies_at self.now.words.now))) series n at b }
+        ensures short { IfSome result (λ e. e ≤ bodies_size) }
+    {
+        match series {
+            Series::Made => self.made(at, n, b),
+            Series::Copied => self.copied(at, n, b),
+        }
+    }
+
+    // The `k` slots at `at` of a series, whose methods begin at `b`.
+    #[tactic(auto, using(crate::specs::SlotLaws::slots_laws))]
+    pub fn slots(&self, at: usize, k: u32, b: usize, series: Series) -> Option<usize>
+        requires { (at + slot_size * k ≤ length self.now.words.now) × (b ≤ bodies_size) }
+        ensures value { result ≡ slots_end (slot_end self.now.owner.kinds.now self.now.owner.actor self.now.owner.words self.now.words.now (methods_reach true self.now.owner.kinds.now self.now.owner.actor self.now.owner.words (take bodies_size (drop bodies_at self.now.words.now))) (methods_reach false self.now.owner.kinds.now self.now.owner.actor self.now.owner.words (take bodies_size (drop bodies_at self.now.words.now))) series) k 0 at b }
+        ensures short { IfSome result (λ e. e ≤ bodies_size) }
+    {
+        let mut e = b;
+        for n in 0..k {
+            e = self.slot(at + SLOT * n as usize, n, e, series)?;
+        }
+        Some(e)
+    }
 }

@@ -79,35 +79,48 @@ module _ (w : List ℕ) (l : length w ≡ state_words) (n k : ℕ) (p : n ≡ ge
 part : (w : List ℕ) (at : ℕ) → take (at + part_size - at) (drop at w) ≡ take part_size (drop at w)
 part w at = let e : at + part_size - at ≡ part_size = omega arith in rw e
 
+-- the first of those that are left, at a place
 module _ (K : List ℕ) (W a n : ℕ) (w : List ℕ) (at : ℕ) where
-  pub parts_none : n ≡ 0 → Decides (PartsHold K W a n (drop at w)) true
-  unfolding Decides PartsHold
-  parts_none e = rw e ((λ z. tt), (λ h. refl))
+  first_part : PartsHold K W a (suc n) (drop at w) → IsPart K a W (take (at + part_size - at) (drop at w)) × PartsHold K W (a + 1) n (drop (at + part_size) w)
+  unfolding PartsHold
+  first_part h = let e : a + 1 ≡ suc a = omega arith in (rw (part w at) h.0, rw (e, ← drop-drop part_size at w) h.1)
 
-  module _ (s : n ≡ 0 → ⊥) (r : Bool) (d : Decides (IsPart K a W (take (at + part_size - at) (drop at w))) r) where
-    positive : n ≡ suc (n - 1)
-    positive = omega arith
+  both-parts : IsPart K a W (take (at + part_size - at) (drop at w)) → PartsHold K W (a + 1) n (drop (at + part_size) w) → PartsHold K W a (suc n) (drop at w)
+  unfolding PartsHold
+  both-parts g h = let e : a + 1 ≡ suc a = omega arith in (rw (part w at) at g, rw (drop-drop part_size at w, ← e) h)
 
-    first_part : PartsHold K W a n (drop at w) → IsPart K a W (take (at + part_size - at) (drop at w)) × PartsHold K W (a + 1) (n - 1) (drop (at + part_size) w)
-    unfolding PartsHold
-    first_part h =
-        let g = transp (λ m. PartsHold K W a m (drop at w)) positive h in
-        let e : a + 1 ≡ suc a = omega arith in
-        (rw (part w at) g.0, rw (e, ← drop-drop part_size at w) g.1)
+-- the parts from the a-th on decide of all
+pub record Left (K : List ℕ) (W n : ℕ) (w : List ℕ) (a : ℕ) : Type 0 where
+  pub there : PartsHold K W 0 n (drop head_size w) → PartsHold K W a (n - a) (drop (head_size + part_size * a) w)
+  pub back : PartsHold K W a (n - a) (drop (head_size + part_size * a) w) → PartsHold K W 0 n (drop head_size w)
 
-    both-parts : IsPart K a W (take (at + part_size - at) (drop at w)) → PartsHold K W (a + 1) (n - 1) (drop (at + part_size) w) → PartsHold K W a n (drop at w)
-    unfolding PartsHold
-    both-parts g h =
-        let e : a + 1 ≡ suc a = omega arith in
-        transp (λ m. PartsHold K W a m (drop at w)) (sym positive) (rw (part w at) at g, rw (drop-drop part_size at w, ← e) h)
+module _ (K : List ℕ) (W n : ℕ) (w : List ℕ) where
+  pub parts-start : Left K W n w 0
+  parts-start = let e : n - 0 ≡ n = omega arith in record { there = λ h. rw e h; back = λ h. rw e at h }
 
-    pub parts-not : r ≡ false → Decides (PartsHold K W a n (drop at w)) false
-    unfolding Decides
-    parts-not e = denied (λ h. false≢true (sym e ∙ d.1 (first_part h).0))
+  module _ (a : ℕ) (l : Left K W n w a) where
+    pub parts-done : n ≤ a → Decides (PartsHold K W 0 n (drop head_size w)) true
+    unfolding Decides PartsHold
+    parts-done h = let e : n - a ≡ 0 = omega arith in ((λ t. l.back (rw e tt)), (λ g. refl))
 
-    pub parts_more : r ≡ true → (b : Bool) → Decides (PartsHold K W (a + 1) (n - 1) (drop (at + part_size) w)) b → Decides (PartsHold K W a n (drop at w)) b
-    unfolding Decides
-    parts_more e b g = ((λ z. both-parts (d.0 e) (g.0 z)), (λ h. g.1 (first_part h).1))
+    module _ (s : a < n) (at : ℕ) (i : at ≡ head_size + part_size * a) (r : Bool) (d : Decides (IsPart K a W (take (at + part_size - at) (drop at w))) r) where
+      suc_rest : n - a ≡ suc (n - (a + 1))
+      suc_rest = omega arith
+
+      next_at : head_size + part_size * (a + 1) ≡ at + part_size
+      next_at = omega arith
+
+      pub parts-stop : r ≡ false → Decides (PartsHold K W 0 n (drop head_size w)) false
+      unfolding Decides
+      parts-stop e = denied (λ h. false≢true (sym e ∙ d.1 (first_part K W a (n - (a + 1)) w at (rw (suc_rest, ← i) at (l.there h))).0))
+
+      pub parts-next : r ≡ true → Left K W n w (a + 1)
+      unfolding Decides
+      parts-next e =
+          record {
+            there = λ h. rw next_at (first_part K W a (n - (a + 1)) w at (rw (suc_rest, ← i) at (l.there h))).1;
+            back = λ h. l.back (rw (suc_rest, ← i) (both-parts K W a (n - (a + 1)) w at (d.0 e) (rw next_at at h)));
+          }
 
 -- ---- all words
 pub head-not : (w : List ℕ) (r : Bool) → Decides (HeadHolds w) r → r ≡ false → Decides (AreState w) false
@@ -155,4 +168,4 @@ module _ (w : List ℕ) where
   state-told true d = let a = d.0 refl in rw ((state-of-iff (take state_words w) a.state).1 (a.valid, a.encoded))
   state-told false d = no-state-in (λ a. false≢true (d.1 a))
 
-pub ruleset laws = (rules, length-take-le, no-actor, many-actors, many-words, rest-not, spare-not, head-told, parts_none, parts-not, parts_more, head-not, head-holds, table-not, parts-told, words-short, state-told)
+pub ruleset laws = (rules, length-take-le, no-actor, many-actors, many-words, rest-not, spare-not, head-told, parts-start, parts-done, parts-stop, parts-next, head-not, head-holds, table-not, parts-told, words-short, state-told)

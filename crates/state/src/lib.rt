@@ -4,10 +4,10 @@
 // judges each actor's part by that table alone.
 #![tactic(auto)]
 
-ghost use Rattle.std.specs.Prelude.{◌≡◌, true, ◌+◌, ◌*◌, ◌≤◌, length, drop};
+ghost use Rattle.std.specs.Prelude.{◌≡◌, true, ◌≤◌, length, drop};
 ghost use Rattle.atlite.specs.Base.{is_done};
 ghost use Rattle.atlite.specs.Answers.{list_answer};
-ghost use Rattle.layout.specs.Numbers.{part_size, state_words};
+ghost use Rattle.layout.specs.Numbers.{head_size, state_words};
 ghost use Rattle.promises.specs.Meaning.{state_in, list_call, ListsCall};
 ghost use Rattle.actor.specs.PartContract.{Decides};
 ghost use Rattle.state.specs.Conditions.{HeadHolds, PartsHold, AreState};
@@ -15,20 +15,17 @@ ghost use Rattle.state.specs.ListCall.{Measures};
 
 use atlite::Cause;
 use layout::{HEAD, PART, STATE, STATE_SLOTS};
-
-fn wide(n: u32) -> usize
-    ensures { result ≡ n }
-{
-    n as usize
-}
+use term_words::Owner;
 
 // Whether the counts are within their limits, the dictionary is one, and only zeros stand behind what is used.
+#[tactic(auto, using(crate::specs::TestLaws::laws))]
 fn is_head(w: &[u32]) -> bool
     requires { length w.now ≡ state_words }
     ensures { Decides (HeadHolds w.now) result }
 {
-    let n = wide(w[0]);
-    let k = wide(w[1]);
+    // One test after another: the check splits no longer chain of && where what is told is no equation.
+    let n = w[0] as usize;
+    let k = w[1] as usize;
     if n == 0 {
         return false;
     }
@@ -38,54 +35,49 @@ fn is_head(w: &[u32]) -> bool
     if 64 < k {
         return false;
     }
-    let spare = 2 + 3 * k;
-    let rest = HEAD + PART * n;
-    if words::all_zero(&w[rest..]) {
-        if words::all_zero(&w[spare..256]) {
-            return dictionary::is_dictionary(w, 2, k);
-        }
+    if !words::all_zero(&w[HEAD + PART * n..]) {
+        return false;
     }
-    false
+    words::all_zero(&w[2 + 3 * k..HEAD]) && dictionary::is_dictionary(w, 2, k)
 }
 
-// Whether the `left` parts at `at` are those of the actors from `a` on, in a state with `k` words.
-fn are_parts(w: &[u32], at: usize, a: u32, left: usize, k: u32, kinds: &[u8; STATE_SLOTS]) -> bool
-    requires { (at + part_size * left ≤ length w.now) × (a + left ≤ 4) × (k ≤ 64) }
-    ensures { Decides (PartsHold kinds.now k a left (drop at w.now)) result }
+// Whether the parts of the `n` actors of a state with `k` words are actors'.
+#[tactic(auto, using(crate::specs::TestLaws::laws))]
+fn are_parts(w: &[u32], n: u32, k: u32, kinds: &[u8; STATE_SLOTS]) -> bool
+    requires { (length w.now ≡ state_words) × (n ≤ 4) × (k ≤ 64) }
+    ensures { Decides (PartsHold kinds.now k 0 n (drop head_size w.now)) result }
 {
-    if left == 0 {
-        return true;
+    for a in 0..n {
+        let at = HEAD + PART * a as usize;
+        let owner = Owner {
+            actor: a,
+            words: k,
+            kinds,
+        };
+        if !actor::is_actor(&w[at..at + PART], &owner) {
+            return false;
+        }
     }
-    let end = at + PART;
-    if actor::is_actor(&w[at..end], a, k, kinds) {
-        return are_parts(w, end, a + 1, left - 1, k, kinds);
-    }
-    false
+    true
 }
 
 // Whether words with such a head are a state.
+#[tactic(auto, using(crate::specs::TestLaws::laws))]
 fn are_actors(w: &[u32]) -> bool
     requires { (length w.now ≡ state_words) × HeadHolds w.now }
     ensures { Decides (AreState w.now) result }
 {
-    let n = wide(w[0]);
-    let k = w[1];
     let mut kinds = [0u8; STATE_SLOTS];
-    if entity_kinds::fill_kinds(w, n, &mut kinds) {
-        return are_parts(w, HEAD, 0, n, k, &kinds);
-    }
-    false
+    entity_kinds::fill_kinds(w, w[0] as usize, &mut kinds) && are_parts(w, w[0], w[1], &kinds)
 }
 
 // Whether 16,384 words are a state.
+#[tactic(auto, using(crate::specs::TestLaws::laws))]
 fn are_state(w: &[u32]) -> bool
     requires { length w.now ≡ state_words }
     ensures { Decides (AreState w.now) result }
 {
-    if is_head(w) {
-        return are_actors(w);
-    }
-    false
+    is_head(w) && are_actors(w)
 }
 
 // Whether `words` begins with the 16,384 words of a state.

@@ -1,8 +1,9 @@
 -- What the functions over terms answer: where the term at a position ends, if it passes a test. Assumes nothing.
 --
--- An answer of 4096 is none: no region of a state has so many words. Terms are read by the reader of positions (crate `layout_laws`,
--- module `Parse`), with fuel for all words, of which one step takes none (`parse-step`).
-use Rattle.std.specs.Prelude.{ℕ, ◌+◌, ◌/◌, ◌%◌, ◌≤◌, ◌<◌, ◌≡◌, Bool, true, ◌&&◌, not, cond, List, [], ◌∷◌, ◌++◌, length, get_or, set, eqb, ltb}
+-- Terms are read by the reader of positions (crate `layout_laws`, module `Parse`), with fuel for all words, of which one step takes none
+-- (`parse-step`).
+use Rattle.std.specs.Prelude.{ℕ, ◌+◌, ◌/◌, ◌%◌, ◌≤◌, ◌<◌, ◌≡◌, Bool, true, ◌&&◌, not, cond, Option, Some, None, List, [], ◌∷◌, ◌++◌, length, get_or, set, max, eqb, ltb}
+use Rattle.std.specs.Option.{IfSome, option_and_then}
 use Rattle.atlite.specs.Base.{member}
 use Rattle.atlite.specs.Term.{this, Value, Kind, Inits, no_field, Methods, no_method, method, signatures, seen}
 use Rattle.atlite.specs.Valid.{is_name, is_variable, methods_named, parameters}
@@ -17,9 +18,13 @@ use Rattle.layout_laws.specs.Parse.{Got, none, got, literal_head, head_in, head_
 use Rattle.layout_laws.specs.ParseLaws.{parse}
 use Rattle.term_words.specs.Words.{within, holds}
 
-unfoldable pub end_of : {A : Type 0} → (A → Bool) → Got A → ℕ
-end_of t none = 4096
-end_of t (got a i) = cond (t a) i 4096
+unfoldable pub end_of : {A : Type 0} → (A → Bool) → Got A → Option ℕ
+end_of t none = None
+end_of t (got a i) = cond (t a) (Some i) None
+
+-- it is not before the place where it was looked for, nor past the words but where that place is
+abbrev pub Behind : List ℕ → ℕ → Option ℕ → Type 0
+Behind w at r = IfSome r (λ i. (at ≤ i) × (i ≤ max at (length w)))
 
 -- the methods of an entity, which see their `this` alone
 unfoldable pub methods_hold : ℕ → (Value → Bool) → Methods → Bool
@@ -111,57 +116,61 @@ methods_well c p xs ns (method m ys e ms) = method_head c ns (m, ys) && (well_fo
 
 -- ---- words
 -- where n terms end
-abbrev pub terms_end : ℕ → (Value → Bool) → List ℕ → List ℕ → ℕ → ℕ → ℕ
+abbrev pub terms_end : ℕ → (Value → Bool) → List ℕ → List ℕ → ℕ → ℕ → Option ℕ
 terms_end c p xs w n at = end_of (well_formed_all c p xs) (parse_terms (length w) w n at)
 
 -- where a term ends whose word h stands before `at`
-abbrev pub word_end : ℕ → (Value → Bool) → List ℕ → List ℕ → ℕ → ℕ → ℕ
+abbrev pub word_end : ℕ → (Value → Bool) → List ℕ → List ℕ → ℕ → ℕ → Option ℕ
 word_end c p xs w h at = end_of (well_formed c p xs) (formed (head_at h) (λ i. parse w i) w at)
 
 -- of a word that nothing stands behind: whether it is a term
 unfoldable pub Leaf : ℕ → (Value → Bool) → List ℕ → ℕ → ℕ → Bool → Type 0
-Leaf c p F g h o = (xs : List ℕ) → Scope F g xs → (w : List ℕ) (at : ℕ) → cond o at 4096 ≡ word_end c p xs w h at
+Leaf c p F g h o = (xs : List ℕ) → Scope F g xs → (w : List ℕ) (at : ℕ) → cond o (Some at) None ≡ word_end c p xs w h at
 
 -- The word h is that of a binder or a literal, or of no term.
 unfoldable pub Closed : ℕ → ℕ → Type 0
 Closed c h = (h / payload ≡ 11 → ⊥) → (h / payload ≡ 12 → ⊥) → (h / payload ≡ 15 → ⊥) → (h / payload ≡ 16 → ⊥) → (h / payload ≡ 17 → ⊥)
-    → (p : Value → Bool) (xs w : List ℕ) (at : ℕ) → 4096 ≡ word_end c p xs w h at
+    → (p : Value → Bool) (xs w : List ℕ) (at : ℕ) → None ≡ word_end c p xs w h at
 
 -- the kinds that are no operators of the table
 unfoldable pub Unlisted : ℕ → Type 0
 Unlisted k = ((row_in k).operator ≡ 1 → ⊥) × ((row_in k).operator ≡ 2 → ⊥)
 
--- Behind the word h of a term stand r terms in the same scope; 0 says that h is closed.
-pub record Operands (c h r : ℕ) : Type 0 where
-  pub few : r ≤ third_place
-  pub none : r ≡ 0 → Closed c h
-  pub some : 0 < r → (p : Value → Bool) (xs w : List ℕ) (at : ℕ) → terms_end c p xs w r at ≡ word_end c p xs w h at
+-- Behind the word h of a term stand n terms in the same scope.
+pub record Opened (c h n : ℕ) : Type 0 where
+  pub few : n ≤ third_place
+  pub ends : (p : Value → Bool) (xs w : List ℕ) (at : ℕ) → terms_end c p xs w n at ≡ word_end c p xs w h at
 
--- a number, if a word passed
-pub record Counted (o : Bool) (n r : ℕ) : Type 0 where
-  pub is : r ≡ cond o n 0
-  pub few : r ≤ n
+-- how many do, if any do
+abbrev pub Operands : ℕ → ℕ → Option ℕ → Type 0
+Operands c h None = Closed c h
+Operands c h (Some n) = Opened c h n
 
 -- ---- ends: in a state of c words, where p may be held, in the scope of F at the level g and, of a literal's parts, behind the signatures in N
 module _ (c : ℕ) (p : Value → Bool) (F : List ℕ) (g : ℕ) (w : List ℕ) where
-  unfoldable pub TermEnds : ℕ → ℕ → Type 0
+  unfoldable pub TermEnds : ℕ → Option ℕ → Type 0
   TermEnds at r = (xs : List ℕ) → Scope F g xs → r ≡ end_of (well_formed c p xs) (parse w at)
 
   -- what is left of the term at `at` are n terms at i
   unfoldable pub Left : ℕ → ℕ → ℕ → Type 0
   Left at n i = (xs : List ℕ) → Scope F g xs → terms_end c p xs w n i ≡ end_of (well_formed c p xs) (parse w at)
 
-  unfoldable pub FieldsEnd : ℕ → ℕ → ℕ → ℕ → Type 0
+  unfoldable pub FieldsEnd : ℕ → ℕ → ℕ → Option ℕ → Type 0
   FieldsEnd N n at r = (xs ns : List ℕ) → Scope F g xs → Met N n ns → r ≡ end_of (fields_well c p xs ns) (parse_inits (length w) w n at)
 
-  unfoldable pub MethodsEnd : ℕ → ℕ → ℕ → ℕ → Type 0
+  unfoldable pub MethodsEnd : ℕ → ℕ → ℕ → Option ℕ → Type 0
   MethodsEnd N n at r = (xs ns : List ℕ) → Scope F g xs → Met N n ns → r ≡ end_of (methods_well c p xs ns) (parse_methods (length w) w n at)
 
+  -- n fields and, behind them, m methods
+  unfoldable pub PartsEnd : ℕ → ℕ → ℕ → Option ℕ → Type 0
+  PartsEnd n m at r = (xs : List ℕ) → Scope F g xs → n ≤ 4 → m ≤ 4
+      → r ≡ option_and_then (λ i. end_of (methods_well c p xs []) (parse_methods (length w) w m i)) (end_of (fields_well c p xs []) (parse_inits (length w) w n at))
+
   -- what stands behind a word of kind k with payload q
-  unfoldable pub FormEnds : ℕ → ℕ → ℕ → ℕ → Type 0
+  unfoldable pub FormEnds : ℕ → ℕ → ℕ → Option ℕ → Type 0
   FormEnds k q at r = (xs : List ℕ) → Scope F g xs → r ≡ end_of (well_formed c p xs) (formed (head_in k q) (λ i. parse w i) w at)
 
   -- the parts of a literal with the word h
-  unfoldable pub LiteralEnds : ℕ → ℕ → ℕ → Type 0
+  unfoldable pub LiteralEnds : ℕ → ℕ → Option ℕ → Type 0
   LiteralEnds h at r = (t : Kind) → h / payload ≡ kind_number t → (xs : List ℕ) → Scope F g xs
       → r ≡ end_of (well_formed c p xs) (formed (literal_head t (h % payload)) (λ i. parse w i) w at)

@@ -75,7 +75,7 @@ small-counts p l = rw (le-leb (p % digit_limit) 4 l)
 pub many-fields : (p : ℕ) → 4 < p % digit_limit → false ≡ leb (p % digit_limit) 4 && leb (p / digit_limit) 4
 many-fields p l = rw (lt-leb (p % digit_limit) 4 l)
 
-pub ruleset place-laws = (rules, two-first, two-second, two-same, two-yes, third-not, third-first, third-second, third-yes, empty-yes, empty-second, empty-first, small-counts, many-fields)
+pub ruleset place_laws = (rules, two-first, two-second, two-same, two-yes, third-not, third-first, third-second, third-yes, empty-yes, empty-second, empty-first, small-counts, many-fields)
 
 -- ---- parameters
 module _ (c : ℕ) where
@@ -295,4 +295,4 @@ module _ (c h N : ℕ) where
           let b = name_below c (h % name_limit) l (sym e ∙ t) in
           i ∙ sym (head-signed ns ∙ rw (k, lt-ltb (h % name_limit) no_name b) (named-within ns (h % name_limit) (params_at h) ∙ rw (new n ns z m ∙ u)))
 
-pub ruleset method-laws = (rules, method-other, method-unnamed, method-taken, method-named)
+pub ruleset method_laws = (rules, method-other, method-unnamed, method-taken, method-named)

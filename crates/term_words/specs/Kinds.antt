@@ -2,7 +2,7 @@
 --
 -- A table has 48 kinds for each of four actors, in the order of their slots: 32 of series m, then 16 of series c. A kind is 0 where no
 -- entity is; else it is the number in the head of the slot: 1 object, 2 isolate, 3 open future, 4 future with its value, 5 resolver.
-use Rattle.std.specs.Prelude.{ℕ, ◌+◌, ◌*◌, Bool, true, ◌&&◌, ◌||◌, not, cond, List, get_or, eqb, leb, ltb}
+use Rattle.std.specs.Prelude.{ℕ, ◌+◌, ◌*◌, Bool, true, ◌&&◌, ◌||◌, not, cond, Option, Some, None, List, get_or, eqb, leb, ltb}
 use Rattle.atlite.specs.Term.{top, Series, made, copied, Value, null, num, ref}
 use Rattle.layout.specs.Numbers.{slot_count}
 
@@ -11,7 +11,11 @@ unfoldable pub kind_at : List ℕ → ℕ → Series → ℕ → ℕ
 kind_at K b made n = cond (ltb b 4 && ltb n 32) (get_or K (slot_count * b + n) 0) 0
 kind_at K b copied n = cond (ltb b 4 && ltb n 16) (get_or K (slot_count * b + (32 + n)) 0) 0
 
--- the kind of what a value names
+-- the kind, where an entity is
+unfoldable pub there : ℕ → Option ℕ
+there k = cond (eqb k 0) None (Some k)
+
+-- the kind of what a value names, or 0
 unfoldable pub kind_of : List ℕ → Value → ℕ
 kind_of K null = 0
 kind_of K (num n) = 0

@@ -1,5 +1,5 @@
 -- Names and variables in range, and signatures that are new behind others, which stand in one number. Assumes nothing.
-use Rattle.std.specs.Prelude.{ℕ, suc, ◌+◌, ◌*◌, ◌/◌, ◌%◌, ◌≤◌, ◌<◌, ◌≡◌, refl, true, not, List, [], ◌∷◌, ltb, leb, if◌then◌else◌}
+use Rattle.std.specs.Prelude.{ℕ, suc, ◌+◌, ◌*◌, ◌%◌, ◌≤◌, ◌<◌, ◌≡◌, refl, true, not, List, [], ◌∷◌, ltb, leb}
 use Rattle.std.proofs.Common.{sym, ap, ◌∙◌, arith, rules, ltb-true, leb-true}
 use Rattle.std.proofs.Math.Option.{Option, none, some}
 use Rattle.atlite.specs.Base.{member}
@@ -55,4 +55,4 @@ pub met-none : (n : ℕ) → n ≤ 4 → Met 0 n []
 unfolding kept
 met-none n l = record { is = refl; few = omega arith; each = tt }
 
-pub ruleset fresh-laws = (rules, fresh-first, fresh-second, fresh-third, fresh-yes, is-noted)
+pub ruleset fresh_laws = (rules, fresh-first, fresh-second, fresh-third, fresh-yes, is-noted)

@@ -1,12 +1,12 @@
 -- The laws of the functions that test one word: one for each way to return. Assumes nothing.
 use Prim.Native.Nat.{ℕ, zero, suc, ◌+◌, ◌*◌, ◌/◌, ◌%◌, ◌≤◌, ◌<◌}
-use Rattle.std.specs.Prelude.{◌≡◌, Bool, ◌&&◌, cond, List, get_or}
+use Rattle.std.specs.Prelude.{◌≡◌, Bool, ◌&&◌, cond, Some, None, List, get_or}
 use Rattle.std.proofs.Math.Path.{refl, sym, ap, ap₂}
 use Rattle.std.proofs.Common.{◌∙◌, true≢false, rules}
 use Rattle.std.proofs.Math.Bool.{true, false, and_assoc}
 use Rattle.std.proofs.Math.Option.{Option, none, some}
 use native.Mathlib.Omega.{arith}
-use borrow.Author.Tests.{ltb-false, lt-ltb, le-ltb, le-leb, lt-leb, eq-eqb, ne_eqb}
+use borrow.Author.Tests.{eqb-true, eqb-false, ltb-false, lt-ltb, le-ltb, le-leb, lt-leb, eq-eqb, ne_eqb}
 use Rattle.std.proofs.Math.Dec.{eqb, ltb, leb}
 use Rattle.atlite.specs.Term.{Series, made, copied, null, num, Name, plain, two_way, resolve, register, top}
 use Rattle.atlite.specs.declared.MadeNo.{MadeNo}
@@ -18,7 +18,7 @@ use Rattle.decoding.specs.TermReading.{series_in, ref_in}
 use Rattle.heap.specs.declared.EntityNo.{EntityNo}
 use Rattle.heap.specs.declared.EntityNo.TheVariants.{Made, Copied}
 use Rattle.heap.specs.EntityNumbers.{series_of, number_of, EntityIn}
-use Rattle.term_words.specs.Kinds.{kind_at, kind_of, visible_kind, allowed}
+use Rattle.term_words.specs.Kinds.{kind_at, there, kind_of, visible_kind, allowed}
 use Rattle.term_words.specs.Words.{within, holds, send_in, call_in, lone}
 
 -- what passes is there
@@ -56,12 +56,38 @@ module _ (w x : ℕ) where
 pub ruleset name-laws = (rules, name-low, name-yes, name-high, variable-this, variable-yes, variable-high)
 
 -- ---- references
+pub kind-there : (k : ℕ) → (k ≡ 0 → ⊥) → Some k ≡ there k
+unfolding there
+kind-there k z = rw (ne_eqb k 0 z)
+
+pub kind-nowhere : (k : ℕ) → k ≡ 0 → None ≡ there k
+unfolding there
+kind-nowhere k z = rw z
+
+pub ruleset there_laws = (rules, kind-there, kind-nowhere)
+
+pub none-there : (k : ℕ) → None ≡ there k → k ≡ 0
+unfolding there
+none-there k e = go (eqb k 0) refl e
+  where
+    go : (b : Bool) → eqb k 0 ≡ b → None ≡ cond b None (Some k) → k ≡ 0
+    go true i e = eqb-true k 0 i
+    go false i e = cc
+
+pub some-there : (n k : ℕ) → Some n ≡ there k → (k ≡ n) × (n ≡ 0 → ⊥)
+unfolding there
+some-there n k e = go (eqb k 0) refl e
+  where
+    go : (b : Bool) → eqb k 0 ≡ b → Some n ≡ cond b None (Some k) → (k ≡ n) × (n ≡ 0 → ⊥)
+    go true i e = cc
+    go false i e = (cc, λ z. eqb-false k 0 i (cc))
+
 module _ (K : List ℕ) (q : ℕ) where
-  pub kind-far : 4 ≤ q / number_limit / 2 → 0 ≡ kind_of K (ref_in q)
-  unfolding kind_of kind_at
+  pub kind-far : 4 ≤ q / number_limit / 2 → None ≡ there (kind_of K (ref_in q))
+  unfolding kind_of kind_at there
   kind-far h = go (series_in (q / number_limit % 2))
     where
-      go : (s : Series) → 0 ≡ kind_at K (q / number_limit / 2) s (q % number_limit)
+      go : (s : Series) → None ≡ there (kind_at K (q / number_limit / 2) s (q % number_limit))
       go made = rw (le-ltb (q / number_limit / 2) 4 h)
       go copied = rw (le-ltb (q / number_limit / 2) 4 h)
 
@@ -76,53 +102,57 @@ module _ (K : List ℕ) (q : ℕ) where
       unfolding series_of number_of
       its-made = named made n.0 (ap series_of h) (ap number_of h)
 
-      pub kind-made : n.0 < 32 → get_or K (slot_count * (q / number_limit / 2) + n.0) 0 ≡ kind_of K (ref_in q)
+      pub kind-made : n.0 < 32 → there (get_or K (slot_count * (q / number_limit / 2) + n.0) 0) ≡ there (kind_of K (ref_in q))
       unfolding kind_at
-      kind-made l = rw (lt-ltb (q / number_limit / 2) 4 b, lt-ltb n.0 32 l) at its-made
+      kind-made l = ap there (rw (lt-ltb (q / number_limit / 2) 4 b, lt-ltb n.0 32 l) at its-made)
 
-      pub kind-unmade : 32 ≤ n.0 → 0 ≡ kind_of K (ref_in q)
-      unfolding kind_at
-      kind-unmade l = rw (lt-ltb (q / number_limit / 2) 4 b, le-ltb n.0 32 l) at its-made
+      pub kind-unmade : 32 ≤ n.0 → None ≡ there (kind_of K (ref_in q))
+      unfolding kind_at there
+      kind-unmade l = ap there (rw (lt-ltb (q / number_limit / 2) 4 b, le-ltb n.0 32 l) at its-made)
 
     module _ (n : CopyNo) (h : e ≡ Copied n) where
       its-copied : kind_at K (q / number_limit / 2) copied n.0 ≡ kind_of K (ref_in q)
       unfolding series_of number_of
       its-copied = named copied n.0 (ap series_of h) (ap number_of h)
 
-      pub kind-copied : n.0 < 16 → get_or K (slot_count * (q / number_limit / 2) + (32 + n.0)) 0 ≡ kind_of K (ref_in q)
+      pub kind-copied : n.0 < 16 → there (get_or K (slot_count * (q / number_limit / 2) + (32 + n.0)) 0) ≡ there (kind_of K (ref_in q))
       unfolding kind_at
-      kind-copied l = rw (lt-ltb (q / number_limit / 2) 4 b, lt-ltb n.0 16 l) at its-copied
+      kind-copied l = ap there (rw (lt-ltb (q / number_limit / 2) 4 b, lt-ltb n.0 16 l) at its-copied)
 
-      pub kind-uncopied : 16 ≤ n.0 → 0 ≡ kind_of K (ref_in q)
-      unfolding kind_at
-      kind-uncopied l = rw (lt-ltb (q / number_limit / 2) 4 b, le-ltb n.0 16 l) at its-copied
+      pub kind-uncopied : 16 ≤ n.0 → None ≡ there (kind_of K (ref_in q))
+      unfolding kind_at there
+      kind-uncopied l = ap there (rw (lt-ltb (q / number_limit / 2) 4 b, le-ltb n.0 16 l) at its-copied)
 
-  module _ (a k : ℕ) (e : k ≡ kind_of K (ref_in q)) where
-    seen-kind : allowed K a (ref_in q) ≡ visible_kind a (q / number_limit / 2) k
+  module _ (a : ℕ) where
+    seen-kind : allowed K a (ref_in q) ≡ visible_kind a (q / number_limit / 2) (kind_of K (ref_in q))
     unfolding allowed kind_of
-    seen-kind = ap (visible_kind a (q / number_limit / 2)) (sym e)
+    seen-kind = refl
 
-    pub reference-none : k ≡ 0 → false ≡ allowed K a (ref_in q)
-    unfolding visible_kind
-    reference-none z = rw (seen-kind, z)
+    pub reference-none : None ≡ there (kind_of K (ref_in q)) → false ≡ allowed K a (ref_in q)
+    unfolding visible_kind there
+    reference-none z = rw (seen-kind, none-there (kind_of K (ref_in q)) z)
 
-    module _ (z : k ≡ 0 → ⊥) where
+    module _ (k : ℕ) (e : Some k ≡ there (kind_of K (ref_in q))) where
+      its-kind : (kind_of K (ref_in q) ≡ k) × (k ≡ 0 → ⊥)
+      unfolding there
+      its-kind = some-there k (kind_of K (ref_in q)) e
+
       pub reference-own : a ≡ q / number_limit / 2 → true ≡ allowed K a (ref_in q)
       unfolding visible_kind
-      reference-own o = rw (seen-kind, ne_eqb k 0 z, eq-eqb a (q / number_limit / 2) o)
+      reference-own o = rw (seen-kind, its-kind.0, ne_eqb k 0 its-kind.1, eq-eqb a (q / number_limit / 2) o)
 
       module _ (o : a ≡ q / number_limit / 2 → ⊥) where
         pub reference-isolate : k ≡ 2 → false ≡ allowed K a (ref_in q)
         unfolding visible_kind
-        reference-isolate i = rw (seen-kind, ne_eqb k 0 z, ne_eqb a (q / number_limit / 2) o, eq-eqb k 2 i)
+        reference-isolate i = rw (seen-kind, its-kind.0, ne_eqb k 0 its-kind.1, ne_eqb a (q / number_limit / 2) o, eq-eqb k 2 i)
 
         pub reference-other : (k ≡ 2 → ⊥) → true ≡ allowed K a (ref_in q)
         unfolding visible_kind
-        reference-other i = rw (seen-kind, ne_eqb k 0 z, ne_eqb a (q / number_limit / 2) o, ne_eqb k 2 i)
+        reference-other i = rw (seen-kind, its-kind.0, ne_eqb k 0 its-kind.1, ne_eqb a (q / number_limit / 2) o, ne_eqb k 2 i)
 
-pub ruleset kind-laws = (rules, kind-far, kind-made, kind-unmade, kind-copied, kind-uncopied)
+pub ruleset kind_laws = (rules, kind-far, kind-made, kind-unmade, kind-copied, kind-uncopied)
 
-pub ruleset reference-laws = (rules, reference-none, reference-own, reference-isolate, reference-other)
+pub ruleset reference_laws = (rules, reference-none, reference-own, reference-isolate, reference-other)
 
 -- ---- values
 module _ (x : ℕ) (K : List ℕ) (a : ℕ) where
@@ -165,7 +195,7 @@ module _ (x : ℕ) (K : List ℕ) (a : ℕ) where
       go (suc (suc (suc zero))) i j k = absurd (k refl)
       go (suc (suc (suc (suc n)))) i j k = refl
 
-pub ruleset value-laws = (rules, value-null, value-number, value-reference, value-isolated, value_none)
+pub ruleset value_laws = (rules, value-null, value-number, value-reference, value-isolated, value_none)
 
 -- ---- the name of a call or a send
 module _ (n low high : ℕ) (o : Bool) (w x : ℕ) (e : o ≡ is_name w x) where
@@ -231,15 +261,22 @@ module _ (w : ℕ) (l : w ≤ 64) where
     unfolding send_in name_of sendable
     send-two-way e h = h ∙ rw e (name-within (λ m. sendable w m (p / name_limit / tag_limit)) (p % name_limit) (two_way (p % name_limit)) (leb 1 (p / name_limit / tag_limit) && leb (p / name_limit / tag_limit) 4) (and_assoc (is_name w (p % name_limit)) (leb 1 (p / name_limit / tag_limit)) (leb (p / name_limit / tag_limit) 4)))
 
-    pub send-resolve : p / name_limit % tag_limit ≡ 2 → r ≡ lone (p % name_limit) (p / name_limit / tag_limit) → r ≡ send_in w p
+    send-resolve : p / name_limit % tag_limit ≡ 2 → r ≡ lone (p % name_limit) (p / name_limit / tag_limit) → r ≡ send_in w p
     unfolding send_in name_of sendable
     send-resolve e h = h ∙ rw e (lone-within (λ m. sendable w m (p / name_limit / tag_limit)) (p % name_limit) (p / name_limit / tag_limit) resolve refl)
 
-    pub send-register : (p / name_limit % tag_limit ≡ 0 → ⊥) → (p / name_limit % tag_limit ≡ 1 → ⊥) → (p / name_limit % tag_limit ≡ 2 → ⊥) → r ≡ lone (p % name_limit) (p / name_limit / tag_limit) → r ≡ send_in w p
+    send-register : (p / name_limit % tag_limit ≡ 0 → ⊥) → (p / name_limit % tag_limit ≡ 1 → ⊥) → (p / name_limit % tag_limit ≡ 2 → ⊥) → r ≡ lone (p % name_limit) (p / name_limit / tag_limit) → r ≡ send_in w p
     unfolding send_in name_of sendable
     send-register i j k h =
         let e : p / name_limit % tag_limit ≡ 3 = omega arith in
         h ∙ rw e (lone-within (λ m. sendable w m (p / name_limit / tag_limit)) (p % name_limit) (p / name_limit / tag_limit) register refl)
+
+    pub send-lone : (p / name_limit % tag_limit ≡ 0 → ⊥) → (p / name_limit % tag_limit ≡ 1 → ⊥) → r ≡ lone (p % name_limit) (p / name_limit / tag_limit) → r ≡ send_in w p
+    send-lone i j h = go (eqb (p / name_limit % tag_limit) 2) refl
+      where
+        go : (b : Bool) → eqb (p / name_limit % tag_limit) 2 ≡ b → r ≡ send_in w p
+        go true e = send-resolve (eqb-true (p / name_limit % tag_limit) 2 e) h
+        go false e = send-register i j (eqb-false (p / name_limit % tag_limit) 2 e) h
 
     pub call-plain : p / name_limit % tag_limit ≡ 0 → r ≡ is_name w (p % name_limit) && (leb 0 (p / name_limit / tag_limit) && leb (p / name_limit / tag_limit) 3) → r ≡ call_in w p
     unfolding call_in name_of callable
@@ -264,4 +301,4 @@ module _ (w : ℕ) (l : w ≤ 64) where
       go (suc (suc (suc zero))) e = given-none (eqb (p % name_limit) 0) register refl
       go (suc (suc (suc (suc t)))) e = refl
 
-pub ruleset message-laws = (rules, send-plain, send-two-way, send-resolve, send-register, call-plain, call-resolve, call-other)
+pub ruleset message_laws = (rules, send-plain, send-two-way, send-lone, call-plain, call-resolve, call-other)

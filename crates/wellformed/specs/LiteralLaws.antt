@@ -1,6 +1,6 @@
 -- The laws of literals: that their names are new one after another says that they are different, and the ways to return. Assumes
 -- nothing.
-use Rattle.std.specs.Prelude.{ℕ, ◌/◌, ◌%◌, ◌≤◌, ◌<◌, ◌≡◌, Bool, ◌&&◌, not, eqb, leb, ltb, length, set, replicate}
+use Rattle.std.specs.Prelude.{ℕ, ◌/◌, ◌%◌, ◌≤◌, ◌<◌, ◌≡◌, Bool, ◌&&◌, not, Option as Maybe, Some, None, eqb, leb, ltb, length, set, replicate}
 use Rattle.std.proofs.Math.Path.{refl, sym, ap}
 use Rattle.std.proofs.Common.{◌∙◌, true≢false, rules}
 use Rattle.std.proofs.Math.Bool.{true, false, and-false}
@@ -12,7 +12,7 @@ use Rattle.atlite_laws.specs.Facts.{and₂}
 use Rattle.atlite.specs.Term.{this, Value, Kind, literal, Inits, no_field, Methods, no_method, method, init_names, Signature, same_signature, signatures, seen}
 use Rattle.atlite.specs.Valid.{is_name, few_distinct, fields_named, methods_named, parameters}
 use Rattle.decoding.specs.ValidTest.{held, well_formed, well_formed_inits, well_formed_methods}
-use Rattle.layout.specs.Numbers.{payload, name_limit, digit_limit, bodies_size}
+use Rattle.layout.specs.Numbers.{payload, name_limit, digit_limit}
 use Rattle.layout.specs.Terms.{count_inits, count_methods}
 use Rattle.layout_laws.specs.Parse.{parts, formed, parse_inits, parse_methods}
 use Rattle.layout_laws.proofs.ParseSound.{inits-sound, methods-sound}
@@ -24,10 +24,10 @@ use Rattle.layout_laws.proofs.Signatures.{signed-distinct}
 use Rattle.layout_laws.specs.LastThree.{distinct_from, from-none}
 use Rattle.term_words.specs.Kinds.{allowed}
 use Rattle.term_words.specs.Words.{holds}
-use Rattle.term_words.specs.Ends.{end_of, methods_hold, Scope, is_new, field_head, sign, method_head, fields_well, methods_well, TermEnds, FieldsEnd, MethodsEnd, LiteralEnds, Opens, Refers}
+use Rattle.term_words.specs.Ends.{end_of, methods_hold, Scope, is_new, field_head, sign, method_head, fields_well, methods_well, TermEnds, FieldsEnd, MethodsEnd, PartsEnd, LiteralEnds, Opens, Refers}
 use Rattle.term_words.specs.ScopeLaws.{scope-none, scope-bind}
 use Rattle.term_words.specs.NameLaws.{name_below, met-none}
-use Rattle.wellformed.specs.EndLaws.{ends_same, ends-none, ends-pair, ends-pair-none, methods-nowhere}
+use Rattle.wellformed.specs.EndLaws.{ends_same, ends-none, ends-pair, ends-pair-none}
 use Rattle.wellformed.specs.ShapeLaws.{only_none}
 use Rattle.wellformed.specs.ListLaws.{methods-none}
 
@@ -131,18 +131,17 @@ module _ (c : ℕ) (p : Value → Bool) (xs : List ℕ) where
 
 -- ---- the ways to return
 module _ (c h : ℕ) (F : List ℕ) (g : ℕ) (w : List ℕ) (at : ℕ) (o : Bool) (e : o ≡ leb (h % payload % digit_limit) 4 && leb (h % payload / digit_limit) 4) where
-  pub literal-not : (p : Value → Bool) → o ≡ false → LiteralEnds c p F g w h at 4096
+  pub literal-not : (p : Value → Bool) → o ≡ false → LiteralEnds c p F g w h at None
   unfolding LiteralEnds formed
   literal-not p u t k xs s =
       only_none c p xs w at (ltb (h % payload / digit_limit) digit_limit) (parts t (h % payload % digit_limit) (h % payload / digit_limit))
       (λ v. ends-pair-none (literal t) (well_formed c p xs) (parse_inits (length w) w (h % payload % digit_limit) at) (λ i. parse_methods (length w) w (h % payload / digit_limit) i) (λ fs i ms j f m.
       literal-long c p xs t fs ms (rw ((inits-sound (length w) w _ at fs i f).1, (methods-sound (length w) w _ i ms j m).1) (sym e ∙ u))))
 
-  pub literal-well : (refs own : Bool) (K : List ℕ) (b i u a r : ℕ) (G H : List ℕ) → length w ≤ bodies_size → c ≤ 64 → o ≡ true → Opens g h i → Refers refs h own → Swapped F 0 i G u
-      → FieldsEnd c (holds own K b) G i w 0 (h % payload % digit_limit) at a → Kept G H → MethodsEnd c (holds own K b) H i w 0 (h % payload / digit_limit % digit_limit) a r
-      → LiteralEnds c (holds refs K b) F g w h at r
-  unfolding LiteralEnds formed Refers FieldsEnd MethodsEnd Kept
-  literal-well refs own K b i u a r G H l c64 v d f x y z j t k xs s =
+  pub literal-well : (refs own : Bool) (K : List ℕ) (b i u : ℕ) (r : Maybe ℕ) (G : List ℕ) → c ≤ 64 → o ≡ true → Opens g h i → Refers refs h own → Swapped F 0 i G u
+      → PartsEnd c (holds own K b) G i w (h % payload % digit_limit) (h % payload / digit_limit % digit_limit) at r → LiteralEnds c (holds refs K b) F g w h at r
+  unfolding LiteralEnds formed Refers PartsEnd
+  literal-well refs own K b i u r G c64 v d f x y t k xs s =
       let ys = this ∷ seen t xs in
       let q = holds own K b in
       let m = and₂ (leb (h % payload % digit_limit) 4) (leb (h % payload / digit_limit) 4) (sym e ∙ v) in
@@ -150,35 +149,46 @@ module _ (c h : ℕ) (F : List ℕ) (g : ℕ) (w : List ℕ) (at : ℕ) (o : Boo
       let p = leb-true (h % payload / digit_limit) 4 m.1 in
       let o : Scope G i ys = rw x.new (scope-bind F i (seen t xs) (d.inner t k F xs s) 0 (omega arith)) in
       let c₁ : h % payload / digit_limit % digit_limit ≡ h % payload / digit_limit = omega arith in
-      j ys [] (rw z o) (met-none (h % payload / digit_limit % digit_limit) (omega arith))
-      ∙ rw (c₁, y ys [] o (met-none (h % payload % digit_limit) (omega arith)), lt-ltb (h % payload / digit_limit) digit_limit (omega arith))
+      rw c₁ at (y ys o n (omega arith))
+      ∙ rw (lt-ltb (h % payload / digit_limit) digit_limit (omega arith))
       (ends-pair (literal t) (well_formed c (holds refs K b) xs) (fields_well c q ys []) (methods_well c q ys []) (parse_inits (length w) w (h % payload % digit_limit) at) (λ i. parse_methods (length w) w (h % payload / digit_limit) i)
-      (methods-nowhere w (omega arith) (methods_well c q ys []) (h % payload / digit_limit)) (λ fs i ms j x z.
+      (λ fs i ms j x z.
       literal-named c (holds refs K b) xs t fs ms c64 (omega (arith, (inits-sound (length w) w _ at fs i x).1)) (omega (arith, (methods-sound (length w) w _ i ms j z).1))
       ∙ ap (λ p. fields_well c p ys [] fs && methods_well c p ys [] ms) (sym (f t k K b))))
 
-pub ruleset literal-laws = (rules, literal-not, literal-well)
+module _ (c : ℕ) (p : Value → Bool) (F : List ℕ) (g : ℕ) (w : List ℕ) (n m at : ℕ) where
+  pub parts-none : FieldsEnd c p F g w 0 n at None → PartsEnd c p F g w n m at None
+  unfolding PartsEnd FieldsEnd
+  parts-none i xs s k l = rw (sym (i xs [] s (met-none n k)))
+
+  pub parts-well : (a : ℕ) (r : Maybe ℕ) (G : List ℕ) → FieldsEnd c p F g w 0 n at (Some a) → Kept F G → MethodsEnd c p G g w 0 m a r → PartsEnd c p F g w n m at r
+  unfolding PartsEnd FieldsEnd MethodsEnd Kept
+  parts-well a r G i v j xs s k l = j xs [] (rw v s) (met-none m l) ∙ rw (sym (i xs [] s (met-none n k)))
+
+pub ruleset literal_laws = (rules, literal-not, literal-well)
+
+pub ruleset parts_laws = (rules, parts-none, parts-well)
 
 -- ---- an actor's expression, and an entity's methods
-pub expression-ends : (c : ℕ) (K : List ℕ) (a : ℕ) (w : List ℕ) (r : ℕ) → TermEnds c (holds true K a) (replicate name_limit 0) 1 w 0 r → r ≡ end_of (well_formed c (allowed K a) []) (parse w 0)
+pub expression-ends : (c : ℕ) (K : List ℕ) (a : ℕ) (w : List ℕ) (r : Maybe ℕ) → TermEnds c (holds true K a) (replicate name_limit 0) 1 w 0 r → r ≡ end_of (well_formed c (allowed K a) []) (parse w 0)
 unfolding TermEnds holds
 expression-ends c K a w r j = j [] scope-none
 
 module _ (c : ℕ) (p : Value → Bool) (w : List ℕ) (n at : ℕ) where
-  pub methods-many : 4 < n → 4096 ≡ end_of (methods_hold c p) (parse_methods (length w) w n at)
+  pub methods-many : 4 < n → None ≡ end_of (methods_hold c p) (parse_methods (length w) w n at)
   unfolding methods_hold
   methods-many l =
       ends-none (methods_hold c p) (parse_methods (length w) w n at)
       (λ ms i g. rw (list-many same_signature (λ s. is_name c s.0) n (signatures ms) (sym (count-methods ms) ∙ (methods-sound (length w) w n at ms i g).1) (lt-leb n 4 l)))
 
-  pub methods-held : (r : ℕ) → c ≤ 64 → n ≤ 4 → MethodsEnd c p (set (replicate name_limit 0) 0 1) 1 w 0 n at r → r ≡ end_of (methods_hold c p) (parse_methods (length w) w n at)
+  pub methods-held : (r : Maybe ℕ) → c ≤ 64 → n ≤ 4 → MethodsEnd c p (set (replicate name_limit 0) 0 1) 1 w 0 n at r → r ≡ end_of (methods_hold c p) (parse_methods (length w) w n at)
   unfolding methods_hold MethodsEnd
   methods-held r f l j =
       j (this ∷ []) [] (scope-bind (replicate name_limit 0) 1 [] scope-none 0 (omega arith)) (met-none n l)
       ∙ ends_same (methods_hold c p) (methods_well c p (this ∷ []) []) (parse_methods (length w) w n at)
       (λ ms i g. sym (methods-named c p (this ∷ []) ms f (omega (arith, (methods-sound (length w) w n at ms i g).1))))
 
-  pub methods-no : c ≤ 64 → n ≡ 0 → at ≡ end_of (methods_hold c p) (parse_methods (length w) w n at)
-  methods-no f e = methods-held at f (omega arith) (methods-none c p (set (replicate name_limit 0) 0 1) 1 w 0 n at e)
+  pub methods-no : c ≤ 64 → n ≡ 0 → Some at ≡ end_of (methods_hold c p) (parse_methods (length w) w n at)
+  methods-no f e = methods-held (Some at) f (omega arith) (methods-none c p (set (replicate name_limit 0) 0 1) 1 w 0 n at e)
 
 pub ruleset laws = (rules, expression-ends, methods-no, methods-many, methods-held)
