@@ -1,9 +1,9 @@
 -- What the parser's answer means for the reader: a script whose lines stand in the scratch words, or cause 2. Assumes nothing.
-use Rattle.std.specs.Prelude.{ℕ, ◌≤◌, ◌≡◌, Bool, List, length}
+use Rattle.std.specs.Prelude.{ℕ, ◌≤◌, ◌≡◌, Bool, Err, List, length}
 use Rattle.std.proofs.Math.Path.{subst as transp}
 use Rattle.std.proofs.Common.{arith, rules}
 use Rattle.atlite.specs.Lexicon.{dictionary}
-use Rattle.atlite.specs.declared.Tabled.TheVariants.{Refused}
+use Rattle.atlite.specs.declared.Cause.TheVariants as C
 use Rattle.layout.specs.Numbers.{table_words}
 use Rattle.scan.specs.WordNumbers.{Holds, Dictionary}
 use Rattle.parse.specs.declared.Parsed.{Parsed}
@@ -39,7 +39,7 @@ module _ (t old : List ℕ) where
         rows = omega (arith, q.counted, q.used, q.room, rows-within q.script);
       }
 
-  pub unparsed : (s : List ℕ) (r : Parsed) → Sized t old → Parses t s r → r ≡ Bad → Reads t old (Refused 2) old
+  pub unparsed : (s : List ℕ) (r : Parsed) → Sized t old → Parses t s r → r ≡ Bad → Reads t old (Err C.Grammar) old
   unfolding Parses
   unparsed s r z p e = no-script t old z.room z.some z.short (transp (Parses t s) e p)
 

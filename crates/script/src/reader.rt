@@ -1,11 +1,12 @@
 // Reading a text into its table.
-ghost use Rattle.std.specs.Prelude.{◌≡◌, ◌+◌, ◌≤◌, ◌<◌, if◌then◌else◌};
+ghost use Rattle.std.specs.Prelude.{◌≡◌, ◌+◌, ◌≤◌, if◌then◌else◌};
 ghost use Rattle.atlite.specs.Answers.{read_answer};
 ghost use Rattle.promises.specs.Meaning.{read_call};
 ghost use Rattle.script.specs.ReadContract.{Reads};
 ghost use Rattle.script.specs.ReaderCauses.{Sized, Grammar, Scoped, Sound};
 
-use atlite::Tabled;
+use crate::TEXT;
+use atlite::Cause;
 use layout::TABLE;
 use parse::Parsed;
 
@@ -14,10 +15,7 @@ fn known(count: usize, apply: bool) -> usize
     requires { count ≤ 2048 }
     ensures { result ≡ count + (if apply then 1 else 0) }
 {
-    if apply {
-        return count + 1;
-    }
-    count
+    count + usize::from(apply)
 }
 
 // Causes 5: brackets, words, nodes. The table is written where none of them is found.
@@ -31,24 +29,21 @@ fn limits(
     count: usize,
     apply: bool,
     table: &mut [u32],
-) -> Tabled
+) -> Result<(), Cause>
     requires { Sound text.now table.old s.now low.now high.now words lines count apply }
     ensures { Reads text.now table.old result table.new }
 {
-    let deepest = checks::depth::depth(text);
-    if 32 < deepest {
-        return Tabled::Refused(5);
+    if 32 < checks::depth::depth(text) {
+        return Err(Cause::Oversized);
     }
-    let different = known(count, apply);
-    if 64 < different {
-        return Tabled::Refused(5);
+    if 64 < known(count, apply) {
+        return Err(Cause::Oversized);
     }
-    let nodes = checks::size::size(s, words, lines);
-    if 512 < nodes {
-        return Tabled::Refused(5);
+    if 512 < checks::size::size(s, words, lines) {
+        return Err(Cause::Oversized);
     }
     checks::table::write_table(s, words, lines, low, high, count, table);
-    Tabled::Done
+    Ok(())
 }
 
 // Cause 4, and what comes after it.
@@ -62,14 +57,14 @@ fn lists(
     count: usize,
     apply: bool,
     table: &mut [u32],
-) -> Tabled
+) -> Result<(), Cause>
     requires { Scoped text.now table.old s.now low.now high.now words lines count apply }
     ensures { Reads text.now table.old result table.new }
 {
-    if checks::single::single(s, words, lines) {
-        return limits(text, s, words, lines, low, high, count, apply, table);
+    if !checks::single::single(s, words, lines) {
+        return Err(Cause::Repeated);
     }
-    Tabled::Refused(4)
+    limits(text, s, words, lines, low, high, count, apply, table)
 }
 
 // Cause 3, and what comes after it.
@@ -83,19 +78,20 @@ fn scopes(
     count: usize,
     apply: bool,
     table: &mut [u32],
-) -> Tabled
+) -> Result<(), Cause>
     requires { Grammar text.now table.old s.now low.now high.now words lines count apply }
     ensures { Reads text.now table.old result table.new }
 {
     let mut last = [0u16; 4096];
-    if checks::bound::bound(s, words, lines, &mut last) {
-        return lists(text, s, words, lines, low, high, count, apply, table);
+    if !checks::bound::bound(s, words, lines, &mut last) {
+        return Err(Cause::Unbound);
     }
-    Tabled::Refused(3)
+    lists(text, s, words, lines, low, high, count, apply, table)
 }
 
 // The grammar, and what comes after it.
-fn grammar(text: &[u8], table: &mut [u32]) -> Tabled
+#[tactic(auto, using(crate::specs::ParserAnswer::laws))]
+fn grammar(text: &[u8], table: &mut [u32]) -> Result<(), Cause>
     requires { Sized text.now table.old }
     ensures { Reads text.now table.old result table.new }
 {
@@ -110,22 +106,23 @@ fn grammar(text: &[u8], table: &mut [u32]) -> Tabled
         Parsed::Done { words, lines } => {
             scopes(text, &s, words, lines, &low, &high, count, apply, table)
         }
-        Parsed::Bad => Tabled::Refused(2),
+        Parsed::Bad => Err(Cause::Grammar),
     }
 }
 
 // Lengths, and what comes after them.
-pub fn read_text(text: &[u8], table: &mut [u32]) -> Tabled
+#[tactic(auto, using(crate::specs::ParserAnswer::laws))]
+pub fn read_text(text: &[u8], table: &mut [u32]) -> Result<(), Cause>
     ensures { Reads text.now table.old result table.new }
 {
     if table.len() < TABLE {
-        return Tabled::Refused(6);
+        return Err(Cause::ShortBuffer);
     }
-    if text.len() == 0 {
-        return Tabled::Refused(1);
+    if text.is_empty() {
+        return Err(Cause::TextLength);
     }
-    if 4096 < text.len() {
-        return Tabled::Refused(1);
+    if TEXT < text.len() {
+        return Err(Cause::TextLength);
     }
     grammar(text, table)
 }
@@ -135,7 +132,8 @@ pub fn read_text(text: &[u8], table: &mut [u32]) -> Tabled
 // The answer and every word of `table` afterwards are `read_call`'s, for any bytes: 6 where the table's buffer is short, then the causes 1
 // to 5, the lowest that applies anywhere in the text, and the table is left alone then. So it is ruled out that a refused text has
 // written a word, and that a fault that stands early in the text hides one with a lower number behind it.
-pub fn read(text: &[u8], table: &mut [u32]) -> Tabled
+#[tactic(auto, unfolding(crate::specs::ReadContract::Reads))]
+pub fn read(text: &[u8], table: &mut [u32]) -> Result<(), Cause>
     ensures { (read_answer result ≡ (read_call text.now table.old).result) × (table.new ≡ (read_call text.now table.old).buffer) }
 {
     read_text(text, table)
