@@ -2,8 +2,8 @@
 -- above the base is in scope, since a literal that hides what is around it makes the level its base. A word binds three names, 0 where
 -- there are fewer: 0 is `this`, which needs no binding and may have any. Assumes nothing.
 use Prim.Native.Nat.{ℕ, ◌+◌, ◌-◌, ◌/◌, ◌%◌, ◌≤◌, ◌<◌}
-use Rattle.std.specs.Prelude.{◌≡◌, refl, cond, ◌&&◌, List, eqb, ltb, get_or, set}
-use Rattle.std.proofs.Math.Path.{sym, ap}
+use Rattle.std.specs.Prelude.{◌≡◌, refl, cond, ◌&&◌, Option, Some, None, List, eqb, ltb, get_or, set}
+use Rattle.std.proofs.Math.Path.{sym, ap, ap₂}
 use Rattle.std.proofs.Common.{◌∙◌, arith, rules, set-set}
 use Rattle.std.proofs.Math.Bool.{Bool, true, false}
 use borrow.Author.Tests.{ne_eqb, lt-ltb, le-ltb}
@@ -11,7 +11,7 @@ use Rattle.std.proofs.Math.ListN.{length}
 use Rattle.std.proofs.lemmas.List.{set-get_or}
 use Rattle.words.specs.Wide.{wide_kinds, wide_limit, wide_params_at, wide_third}
 use Rattle.checks.specs.Trees.{Forest, empty, tree, words, count, outer, inner, Fits}
-use Rattle.checks.specs.TreeContract.{Here, length-tree, here-word, here-outer, here-inner, here-next, answer, chain, no-tree}
+use Rattle.checks.specs.TreeContract.{Here, length-tree, here-word, here-outer, here-inner, here-next, answer, stopped, went, no-tree}
 
 -- a variable is `this` or in scope
 unfoldable pub sees : ℕ → ℕ → List ℕ → Bool
@@ -40,7 +40,7 @@ ok empty L b l = true
 ok (tree h a c r) L b l = sees h b L && (ok a L (base_of h b l) l && (ok c (bind_all L (binds h) (l + 1)) (base_of h b l) (l + 1) && ok r L b l))
 
 -- the answer for n trees at `at`
-unfoldable pub Scanned : List ℕ → ℕ → ℕ → ℕ → ℕ → ℕ → List ℕ → ℕ → Type 0
+unfoldable pub Scanned : List ℕ → ℕ → ℕ → ℕ → ℕ → ℕ → List ℕ → Option ℕ → Type 0
 Scanned s end at n b l L r = (f : Forest) → Fits f → count f ≡ n → Here s end at (words f) → r ≡ answer (ok f L b l) (at + length (words f))
 
 -- what was changed on the way is put back
@@ -137,62 +137,89 @@ back L n v M N x y z p q =
 
 -- ---- the ways to return
 module _ (s : List ℕ) (end at n b l : ℕ) (L : List ℕ) where
-  pub scan-none : n ≡ 0 → Scanned s end at n b l L at
+  pub scan-none : n ≡ 0 → Scanned s end at n b l L (Some at)
   unfolding Scanned ok words
-  scan-none z f ft c here = rw (no-tree f (c ∙ z)) (omega arith)
+  scan-none z f ft c here = rw (no-tree f (c ∙ z)) (ap Some (omega arith))
 
-  pub scan-past : (n ≡ 0 → ⊥) → end ≤ at → Scanned s end at n b l L 8192
+  pub scan-past : (n ≡ 0 → ⊥) → end ≤ at → Scanned s end at n b l L None
   unfolding Scanned count
   scan-past z p empty ft c here = absurd (z (sym c))
   scan-past z p (tree h a d r) ft c here = absurd (omega (arith, here.ends, length-tree s end at h a d r here))
 
-  pub scan-fault : (o : Bool) → (n ≡ 0 → ⊥) → o ≡ sees (get_or s at 0) b L → o ≡ false → Scanned s end at n b l L 8192
+  pub scan-fault : (o : Bool) → (n ≡ 0 → ⊥) → o ≡ sees (get_or s at 0) b L → o ≡ false → Scanned s end at n b l L None
   unfolding Scanned count ok
   scan-fault o z e t empty ft c here = absurd (z (sym c))
   scan-fault o z e t (tree h a d r) ft c here =
       let q : sees h b L ≡ false = ap (λ k. sees k b L) (sym (here-word s end at h a d r here)) ∙ sym e ∙ t in
       rw q
 
-  module _ (B i m e r : ℕ) (L₁ L₂ L₃ : List ℕ) where
-    pub scan-kept : Kept L L₁ → Kept L₁ L₂ → Kept L₂ L₃ → Kept L L₃
-    unfolding Kept
-    scan-kept p q u = u ∙ q ∙ p
+  pub scan-kept : (L₁ L₂ L₃ : List ℕ) → Kept L L₁ → Kept L₁ L₂ → Kept L₂ L₃ → Kept L L₃
+  unfolding Kept
+  scan-kept L₁ L₂ L₃ p q u = u ∙ q ∙ p
 
-    pub scan-on : (o : Bool) → (n ≡ 0 → ⊥) → o ≡ sees (get_or s at 0) b L → o ≡ true → Base (get_or s at 0) b l B → i ≡ outer (get_or s at 0) → Scanned s end (at + 1) i B l L m → Kept L L₁
-        → Scanned s end m (inner (get_or s at 0)) B (l + 1) (bind_all L₁ (binds (get_or s at 0)) (l + 1)) e → Kept L₁ L₂
-        → Scanned s end e (n - 1) b l L₂ r → m ≤ e → e ≤ r → e ≤ 8192 → r ≤ 8192 → Scanned s end at n b l L r
-    unfolding Scanned count ok Fits Kept
-    scan-on o nz eo t hb ei wa e₁ wc e₂ wr me er e8 r8 empty ft c here = absurd (nz (sym c))
-    scan-on o nz eo t hb ei wa e₁ wc e₂ wr me er e8 r8 (tree h a d f) ft c here =
-        let hh = here-word s end at h a d f here in
-        let A : Bool = ok a L (base_of h b l) l in
-        let C : Bool = ok d (bind_all L (binds h) (l + 1)) (base_of h b l) (l + 1) in
-        let F : Bool = ok f L b l in
-        let la : ℕ = length (words a) in
-        let ld : ℕ = length (words d) in
-        let lf : ℕ = length (words f) in
-        let eb : B ≡ base_of h b l = hb.is ∙ ap (λ k. base_of k b l) hh in
-        let u : sees h b L ≡ true = ap (λ k. sees k b L) (sym hh) ∙ sym eo ∙ t in
-        let va : m ≡ answer A (at + 1 + la) = wa a ft.2 (ft.0 ∙ sym (ei ∙ ap outer hh)) (here-outer s end at h a d f here) ∙ ap (λ k. answer (ok a L k l) (at + 1 + la)) eb in
-        let vc : A ≡ true → e ≡ answer C (at + 1 + la + ld) = λ sa.
-        (let ma : m ≡ at + 1 + la = va ∙ ap (λ k. answer k (at + 1 + la)) sa in
-        wc d ft.3 (ft.1 ∙ sym (ap inner hh)) (here-inner s end at h a d f here m ma) ∙ rw (eb, e₁, hh, ma)) in
-        let vf : A ≡ true → C ≡ true → r ≡ answer F (at + 1 + la + ld + lf) = λ sa sc.
-        (let ea : e ≡ at + 1 + la + ld = vc sa ∙ ap (λ k. answer k (at + 1 + la + ld)) sc in
-        wr f ft.4 (omega arith) (here-next s end at h a d f here e ea) ∙ rw (e₂, e₁, ea)) in
-        let k : at + length (words (tree h a d f)) ≡ at + 1 + la + ld + lf = omega (arith, length-tree s end at h a d f here) in
-        rw (u, k) (chain at m e r la ld lf A C F va vc vf me er e8 r8)
+  pub scan-kept-two : (L₁ L₂ : List ℕ) → Kept L L₁ → Kept L₁ L₂ → Kept L L₂
+  unfolding Kept
+  scan-kept-two L₁ L₂ p q = q ∙ p
+
+  module _ (o : Bool) (B i : ℕ) (z : n ≡ 0 → ⊥) (eo : o ≡ sees (get_or s at 0) b L) (t : o ≡ true) (hb : Base (get_or s at 0) b l B) (ei : i ≡ outer (get_or s at 0)) where
+    -- the first word is no variable that is not bound
+    seen : (h : ℕ) (a d f : Forest) → Here s end at (words (tree h a d f)) → sees h b L ≡ true
+    seen h a d f here = ap (λ k. sees k b L) (sym (here-word s end at h a d f here)) ∙ sym eo ∙ t
+
+    based : (h : ℕ) (a d f : Forest) → Here s end at (words (tree h a d f)) → B ≡ base_of h b l
+    based h a d f here = hb.is ∙ ap (λ k. base_of k b l) (here-word s end at h a d f here)
+
+    -- what was found of its outer operands
+    scanned-outer : (r : Option ℕ) → Scanned s end (at + 1) i B l L r → (h : ℕ) (a d f : Forest) → Fits (tree h a d f) → Here s end at (words (tree h a d f)) → r ≡ answer (ok a L (base_of h b l) l) (at + 1 + length (words a))
+    unfolding Scanned Fits
+    scanned-outer r wa h a d f ft here =
+        wa a ft.2 (ft.0 ∙ sym (ei ∙ ap outer (here-word s end at h a d f here))) (here-outer s end at h a d f here) ∙ ap (λ k. answer (ok a L k l) (at + 1 + length (words a))) (based h a d f here)
+
+    pub scan-outer : Scanned s end (at + 1) i B l L None → Scanned s end at n b l L None
+    unfolding Scanned count ok
+    scan-outer wa empty ft c here = absurd (z (sym c))
+    scan-outer wa (tree h a d f) ft c here = rw (seen h a d f here, stopped (ok a L (base_of h b l) l) _ (scanned-outer None wa h a d f ft here))
+
+    module _ (m : ℕ) (L₁ : List ℕ) (wa : Scanned s end (at + 1) i B l L (Some m)) (e₁ : Kept L L₁) where
+      outer-end : (h : ℕ) (a d f : Forest) → Fits (tree h a d f) → Here s end at (words (tree h a d f)) → (ok a L (base_of h b l) l ≡ true) × (m ≡ at + 1 + length (words a))
+      outer-end h a d f ft here = went (ok a L (base_of h b l) l) _ m (scanned-outer (Some m) wa h a d f ft here)
+
+      abbrev Inner : Option ℕ → Type 0
+      Inner r = Scanned s end m (inner (get_or s at 0)) B (l + 1) (bind_all L₁ (binds (get_or s at 0)) (l + 1)) r
+
+      scanned-inner : (r : Option ℕ) → Inner r → (h : ℕ) (a d f : Forest) → Fits (tree h a d f) → Here s end at (words (tree h a d f)) → r ≡ answer (ok d (bind_all L (binds h) (l + 1)) (base_of h b l) (l + 1)) (m + length (words d))
+      unfolding Scanned Fits Kept
+      scanned-inner r wc h a d f ft here =
+          let hh = here-word s end at h a d f here in
+          wc d ft.3 (ft.1 ∙ sym (ap inner hh)) (here-inner s end at h a d f here m (outer-end h a d f ft here).1) ∙ rw (based h a d f here, e₁, hh)
+
+      pub scan-stop : Inner None → Scanned s end at n b l L None
+      unfolding Scanned count ok
+      scan-stop wc empty ft c here = absurd (z (sym c))
+      scan-stop wc (tree h a d f) ft c here =
+          rw (seen h a d f here, (outer-end h a d f ft here).0, stopped (ok d (bind_all L (binds h) (l + 1)) (base_of h b l) (l + 1)) _ (scanned-inner None wc h a d f ft here))
+
+      pub scan-on : (e : ℕ) (r : Option ℕ) (L₂ : List ℕ) → Inner (Some e) → Kept L₁ L₂ → Scanned s end e (n - 1) b l L₂ r → Scanned s end at n b l L r
+      unfolding Scanned count ok Fits Kept
+      scan-on e r L₂ wc e₂ wr empty ft c here = absurd (z (sym c))
+      scan-on e r L₂ wc e₂ wr (tree h a d f) ft c here =
+          let x = outer-end h a d f ft here in
+          let y = went (ok d (bind_all L (binds h) (l + 1)) (base_of h b l) (l + 1)) _ e (scanned-inner (Some e) wc h a d f ft here) in
+          let k : e ≡ at + 1 + length (words a) + length (words d) = omega (arith, x.1, y.1) in
+          let j : e + length (words f) ≡ at + length (words (tree h a d f)) = omega (arith, k, length-tree s end at h a d f here) in
+          rw (seen h a d f here, x.0, y.0)
+          (wr f ft.4 (omega arith) (here-next s end at h a d f here e k) ∙ ap₂ answer (ap (λ M. ok f M b l) (e₂ ∙ e₁)) j)
 
 module _ (h g v : ℕ) (L L₁ L₂ L₃ : List ℕ) (x y z : ℕ) where
   pub inside-kept : Bound L g v L₁ x y z → Kept L₁ L₂ → Unbound L₂ g L₃ x y z → Kept L L₃
   unfolding Kept
   inside-kept p e q = back L g v L₁ L₃ x y z p (rw e at q)
 
-  pub inside : (s : List ℕ) (end at j b l r : ℕ) → g ≡ binds h → Bound L g (l + 1) L₁ x y z → j ≡ inner h → Scanned s end at j b (l + 1) L₁ r → Scanned s end at (inner h) b (l + 1) (bind_all L (binds h) (l + 1)) r
+  pub inside : (s : List ℕ) (end at j b l : ℕ) (r : Option ℕ) → g ≡ binds h → Bound L g (l + 1) L₁ x y z → j ≡ inner h → Scanned s end at j b (l + 1) L₁ r → Scanned s end at (inner h) b (l + 1) (bind_all L (binds h) (l + 1)) r
   inside s end at j b l r eg p ej k =
       let e : L₁ ≡ bind_all L (binds h) (l + 1) = p.new ∙ ap (λ i. bind_all L i (l + 1)) eg in
       rw (ej, e) at k
 
 pub ruleset laws = (rules, sees-this, sees-bound, sees-unbound, sees-other, base-level, base_same, binds-is, binds-none, swapped, all-bound, all-unbound)
 
-pub ruleset scan-laws = (rules, kept, scan-none, scan-past, scan-fault, scan-kept, scan-on, inside-kept, inside)
+pub ruleset scan_laws = (rules, kept, scan-none, scan-past, scan-fault, scan-kept, scan-kept-two, scan-outer, scan-stop, scan-on, inside-kept, inside)

@@ -1,6 +1,6 @@
 -- That variables are bound in the lines, each under the words that the lines before it define, is that they are in the script that the
 -- lines join to. Assumes nothing.
-use Rattle.std.specs.Prelude.{ℕ, ◌+◌, ◌-◌, ◌/◌, ◌%◌, ◌≤◌, ◌≡◌, Bool, true, false, ◌&&◌, length, replicate}
+use Rattle.std.specs.Prelude.{ℕ, ◌+◌, ◌-◌, ◌/◌, ◌%◌, ◌≤◌, ◌≡◌, Bool, true, false, ◌&&◌, Option, Some, None, length, take, replicate}
 use Rattle.std.proofs.Math.Path.{refl, sym, ap}
 use Rattle.std.proofs.Common.{◌∙◌, arith, rules, set-set}
 use Rattle.std.proofs.Math.Bool.{and-true}
@@ -51,7 +51,7 @@ lines_join (define x d ∷ l ∷ ls) e xs j =
     ap (λ b. bound xs d && b) (lines_join (l ∷ ls) q.0 (x ∷ xs) q.1) ∙ ap (bound xs) (done-same (let_in x d q.0) e q.2)
 
 -- what the scan answers of an expression
-scan-src : (s : List ℕ) (end at l : ℕ) (L : List ℕ) (m : ℕ) (e : Src) (w : ℕ) (xs : List ℕ) → w ≤ 4000 → Grammatical w e → Here s end at (wide_src e) → Levels L 0 l xs → Scanned s end at 1 0 l L m
+scan-src : (s : List ℕ) (end at l : ℕ) (L : List ℕ) (m : Option ℕ) (e : Src) (w : ℕ) (xs : List ℕ) → w ≤ 4000 → Grammatical w e → Here s end at (wide_src e) → Levels L 0 l xs → Scanned s end at 1 0 l L m
     → m ≡ answer (bound xs e) (at + length (wide_src e))
 unfolding Scanned words count
 scan-src s end at l L m e w xs k g h v i =
@@ -83,44 +83,38 @@ module _ (s : List ℕ) (end at left l : ℕ) (L : List ℕ) where
   define-kind : (x : ℕ) (e : Src) (ls : List Line) → Here s end at (wide_lines (define x e ∷ ls)) → (get_or s at 0 % wide_kinds ≡ 130 → ⊥) → ⊥
   define-kind x e ls h c = c (ap (λ j. j % wide_kinds) (define-word s end at x e ls h) ∙ omega arith)
 
-  module _ (m : ℕ) (z : left ≡ 0 → ⊥) (c : get_or s at 0 % wide_kinds ≡ 130 → ⊥) (i : Scanned s end at 1 0 l L m) where
-    pub lines-fault : end ≤ 4096 → m ≡ 8192 → LinesBound s end at left l L false
+  module _ (z : left ≡ 0 → ⊥) (c : get_or s at 0 % wide_kinds ≡ 130 → ⊥) where
+    pub lines-fault : Scanned s end at 1 0 l L None → LinesBound s end at left l L false
     unfolding LinesBound bound_lines GrammaticalLines
-    lines-fault f t [] w xs k g n h v = absurd (z n)
-    lines-fault f t (expression e ∷ ls) w xs k g n h v =
-        let p = line-src s end at e ls h in
-        rw (stopped (bound xs e) _ m (scan-src s end at l L m e w xs k g.0 p v i) (omega (arith, p.ends)) t)
-    lines-fault f t (define x e ∷ ls) w xs k g n h v = absurd (define-kind x e ls h c)
+    lines-fault i [] w xs k g n h v = absurd (z n)
+    lines-fault i (expression e ∷ ls) w xs k g n h v = rw (stopped (bound xs e) _ (scan-src s end at l L None e w xs k g.0 (line-src s end at e ls h) v i))
+    lines-fault i (define x e ∷ ls) w xs k g n h v = absurd (define-kind x e ls h c)
 
-    pub lines-on : (r : Bool) (L₁ : List ℕ) → (m ≡ 8192 → ⊥) → Kept L L₁ → LinesBound s end m (left - 1) l L₁ r → LinesBound s end at left l L r
+    pub lines-on : (m : ℕ) (r : Bool) (L₁ : List ℕ) → Scanned s end at 1 0 l L (Some m) → Kept L L₁ → LinesBound s end m (left - 1) l L₁ r → LinesBound s end at left l L r
     unfolding LinesBound bound_lines GrammaticalLines Kept
-    lines-on r L₁ t e₁ j [] w xs k g n h v = absurd (z n)
-    lines-on r L₁ t e₁ j (expression e ∷ ls) w xs k g n h v =
-        let a = scan-src s end at l L m e w xs k g.0 (line-src s end at e ls h) v i in
-        let y = went (bound xs e) _ m a t in
-        rw y (j ls w xs k g.1 (omega arith) (line-rest s end at e ls m (a ∙ rw y) h) (rw e₁ v))
-    lines-on r L₁ t e₁ j (define x e ∷ ls) w xs k g n h v = absurd (define-kind x e ls h c)
+    lines-on m r L₁ i e₁ j [] w xs k g n h v = absurd (z n)
+    lines-on m r L₁ i e₁ j (expression e ∷ ls) w xs k g n h v =
+        let y = went (bound xs e) _ m (scan-src s end at l L (Some m) e w xs k g.0 (line-src s end at e ls h) v i) in
+        rw y.0 (j ls w xs k g.1 (omega arith) (line-rest s end at e ls m y.1 h) (rw e₁ v))
+    lines-on m r L₁ i e₁ j (define x e ∷ ls) w xs k g n h v = absurd (define-kind x e ls h c)
 
-  module _ (m : ℕ) (z : left ≡ 0 → ⊥) (c : get_or s at 0 % wide_kinds ≡ 130) (i : Scanned s end (at + 1) 1 0 l L m) where
-    pub define-fault : end ≤ 4096 → m ≡ 8192 → LinesBound s end at left l L false
+  module _ (z : left ≡ 0 → ⊥) (c : get_or s at 0 % wide_kinds ≡ 130) where
+    pub define-fault : Scanned s end (at + 1) 1 0 l L None → LinesBound s end at left l L false
     unfolding LinesBound bound_lines GrammaticalLines
-    define-fault f t [] w xs k g n h v = absurd (z n)
-    define-fault f t (expression e ∷ ls) w xs k g n h v = absurd (expression-kind e ls h c)
-    define-fault f t (define x e ∷ ls) w xs k g n h v =
-        let p = define-src s end at x e ls h in
-        rw (stopped (bound xs e) _ m (scan-src s end (at + 1) l L m e w xs k g.1 p v i) (omega (arith, p.ends)) t)
+    define-fault i [] w xs k g n h v = absurd (z n)
+    define-fault i (expression e ∷ ls) w xs k g n h v = absurd (expression-kind e ls h c)
+    define-fault i (define x e ∷ ls) w xs k g n h v = rw (stopped (bound xs e) _ (scan-src s end (at + 1) l L None e w xs k g.1 (define-src s end at x e ls h) v i))
 
-    pub define-on : (r : Bool) (L₁ L₂ : List ℕ) (o : ℕ) → (m ≡ 8192 → ⊥) → Kept L L₁ → Swapped L₁ (get_or s at 0 / wide_kinds % wide_limit) (l + 1) L₂ o → LinesBound s end m (left - 1) (l + 1) L₂ r → LinesBound s end at left l L r
+    pub define-on : (m : ℕ) (r : Bool) (L₁ L₂ : List ℕ) (o : ℕ) → Scanned s end (at + 1) 1 0 l L (Some m) → Kept L L₁ → Swapped L₁ (get_or s at 0 / wide_kinds % wide_limit) (l + 1) L₂ o → LinesBound s end m (left - 1) (l + 1) L₂ r → LinesBound s end at left l L r
     unfolding LinesBound bound_lines GrammaticalLines Kept
-    define-on r L₁ L₂ o t e₁ p j [] w xs k g n h v = absurd (z n)
-    define-on r L₁ L₂ o t e₁ p j (expression e ∷ ls) w xs k g n h v = absurd (expression-kind e ls h c)
-    define-on r L₁ L₂ o t e₁ p j (define x e ∷ ls) w xs k g n h v =
-        let a = scan-src s end (at + 1) l L m e w xs k g.1 (define-src s end at x e ls h) v i in
-        let y = went (bound xs e) _ m a t in
+    define-on m r L₁ L₂ o i e₁ p j [] w xs k g n h v = absurd (z n)
+    define-on m r L₁ L₂ o i e₁ p j (expression e ∷ ls) w xs k g n h v = absurd (expression-kind e ls h c)
+    define-on m r L₁ L₂ o i e₁ p j (define x e ∷ ls) w xs k g n h v =
+        let y = went (bound xs e) _ m (scan-src s end (at + 1) l L (Some m) e w xs k g.1 (define-src s end at x e ls h) v i) in
         let hx = named w x g.0 in
         let q : get_or s at 0 / wide_kinds % wide_limit ≡ x = ap (λ i. i / wide_kinds % wide_limit) (define-word s end at x e ls h) ∙ name_back w x k hx in
         let e₂ : L₂ ≡ set L x (l + 1) = p.new ∙ rw (q, e₁) in
-        rw y (j ls w (x ∷ xs) k g.2 (omega arith) (define-rest s end at x e ls h m (a ∙ rw y)) (rw e₂ (bound-one L 0 l xs x (l + 1) (omega (arith, hx.below)) (omega arith) (omega arith) v)))
+        rw y.0 (j ls w (x ∷ xs) k g.2 (omega arith) (define-rest s end at x e ls h m y.1) (rw e₂ (bound-one L 0 l xs x (l + 1) (omega (arith, hx.below)) (omega arith) (omega arith) v)))
 
 pub define-kept : (L L₁ L₂ L₃ L₄ : List ℕ) (x v o u : ℕ) → Kept L L₁ → Swapped L₁ x v L₂ o → Kept L₂ L₃ → Swapped L₃ x o L₄ u → Kept L L₄
 unfolding Kept
@@ -131,9 +125,9 @@ pub kept-twice : (L L₁ L₂ : List ℕ) → Kept L L₁ → Kept L₁ L₂ →
 unfolding Kept
 kept-twice L L₁ L₂ a b = b ∙ a
 
-pub all-bound : (s : List ℕ) (words lines : ℕ) (L : List ℕ) (r : Bool) → L ≡ replicate 4096 0 → LinesBound s words 0 lines 0 L r → AllBound s words lines r
+pub all-bound : (s : List ℕ) (words lines k : ℕ) (L : List ℕ) (r : Bool) → L ≡ replicate 4096 0 → k ≡ words → LinesBound (take k s) (length (take k s)) 0 lines 0 L r → AllBound s words lines r
 unfolding AllBound LinesBound
-all-bound s words lines L r z i ls e w st j k g = i ls w [] k g st.count (here-all s words lines ls st) (at-start L z) ∙ lines_join ls e [] j
+all-bound s words lines k₁ L r z d i ls e w st j k g = (rw d at i) ls w [] k g st.count (here-all s words lines ls st) (at-start L z) ∙ lines_join ls e [] j
 
 pub ruleset laws = (rules, kept, lines_none, lines-past, lines-fault, lines-on, define-fault, define-on, define-kept, kept-twice)
 

@@ -1,7 +1,7 @@
 -- The lines of a script in its words: where each begins, and where its expression does. Assumes nothing.
-use Rattle.std.specs.Prelude.{ℕ, ◌+◌, ◌%◌, ◌≤◌, ◌<◌, ◌≡◌, cond, eqb, length, drop}
+use Rattle.std.specs.Prelude.{ℕ, ◌+◌, ◌%◌, ◌≤◌, ◌<◌, ◌≡◌, cond, eqb, length, take}
 use Rattle.std.proofs.Math.Path.{refl, subst}
-use Rattle.std.proofs.Common.{sym, ap, ◌∙◌, rules, take-append-drop}
+use Rattle.std.proofs.Common.{sym, ap, ◌∙◌, rules}
 use mathlib.Core.List.{List, [], ◌∷◌, ◌++◌, append-nil}
 use native.Mathlib.Omega.{arith}
 use borrow.Author.Tests.{eq-eqb, ne_eqb}
@@ -115,11 +115,11 @@ not-past s end at (expression e) ls h =
 not-past s end at (define x e) ls h = omega (arith, (define-src s end at x e ls h).ends)
 
 -- all lines
-pub here-all : (s : List ℕ) (end lines : ℕ) (ls : List Line) → Stands s end lines ls → Here s end 0 (wide_lines ls)
+pub here-all : (s : List ℕ) (end lines : ℕ) (ls : List Line) → Stands s end lines ls → Here (take end s) (length (take end s)) 0 (wide_lines ls)
 here-all s end lines ls st = record {
   before = [];
-  after = drop end s;
-  stands = sym (take-append-drop end s) ∙ ap (λ v. v ++ drop end s) st.here;
+  after = [];
+  stands = st.here ∙ sym (append-nil (wide_lines ls));
   starts = refl;
-  ends = omega (arith, st.used);
+  ends = omega (arith, ap length st.here);
 }

@@ -1,7 +1,7 @@
 -- That names are single, over trees: a number keeps the signatures of the headers before, in 14 bits each. A field's is its name. Assumes
 -- nothing.
-use Rattle.std.specs.Prelude.{ℕ, ◌+◌, ◌-◌, ◌*◌, ◌/◌, ◌%◌, ◌≤◌, ◌<◌, ◌≡◌, Bool, cond, ◌&&◌, not, List, eqb, ltb, get_or}
-use Rattle.std.proofs.Math.Path.{sym, ap}
+use Rattle.std.specs.Prelude.{ℕ, ◌+◌, ◌-◌, ◌*◌, ◌/◌, ◌%◌, ◌≤◌, ◌<◌, ◌≡◌, Bool, cond, ◌&&◌, not, Option, Some, None, List, eqb, ltb, get_or}
+use Rattle.std.proofs.Math.Path.{sym, ap, ap₂}
 use Rattle.std.proofs.Common.{◌∙◌, arith, rules}
 use Rattle.std.proofs.Math.Bool.{true, false}
 use borrow.Author.Tests.{eq-eqb, ne_eqb, lt-ltb, le-ltb}
@@ -10,7 +10,7 @@ use Rattle.layout.specs.Numbers.{field_kind}
 use Rattle.layout_laws.specs.LastThree.{fresh, fresh-first, fresh-second, fresh-third, fresh-yes, room, noted as keep}
 use Rattle.words.specs.Wide.{wide_kinds, wide_limit, wide_third, wide_signed, wide_params_at}
 use Rattle.checks.specs.Trees.{Forest, empty, tree, words, count, outer, inner, Fits}
-use Rattle.checks.specs.TreeContract.{Here, length-tree, here-word, here-outer, here-inner, here-next, answer, chain, no-tree}
+use Rattle.checks.specs.TreeContract.{Here, length-tree, here-word, here-outer, here-inner, here-next, answer, stopped, went, no-tree}
 
 -- of three places, filled from the first on and 0 where empty, no two are the same name
 unfoldable pub apart : ℕ → ℕ → ℕ → Bool
@@ -36,7 +36,7 @@ sing empty n = true
 sing (tree h a c b) n = own h n && (sing a 0 && (sing c 0 && sing b (noted h n)))
 
 -- the answer for n trees at `at`, behind the signatures in `names`
-unfoldable pub Walked : List ℕ → ℕ → ℕ → ℕ → ℕ → ℕ → Type 0
+unfoldable pub Walked : List ℕ → ℕ → ℕ → ℕ → ℕ → Option ℕ → Type 0
 Walked s end at n names r = (f : Forest) → Fits f → count f ≡ n → Here s end at (words f) → r ≡ answer (sing f names) (at + length (words f))
 
 -- ---- one word
@@ -104,40 +104,63 @@ module _ (h n : ℕ) where
 
 -- ---- the ways to return
 module _ (s : List ℕ) (end at n names : ℕ) where
-  pub walk_none : n ≡ 0 → Walked s end at n names at
+  pub walk_none : n ≡ 0 → Walked s end at n names (Some at)
   unfolding Walked sing words
-  walk_none z f ft c here = rw (no-tree f (c ∙ z)) (omega arith)
+  walk_none z f ft c here = rw (no-tree f (c ∙ z)) (ap Some (omega arith))
 
-  pub walk-past : (n ≡ 0 → ⊥) → end ≤ at → Walked s end at n names 8192
+  pub walk-past : (n ≡ 0 → ⊥) → end ≤ at → Walked s end at n names None
   unfolding Walked count
   walk-past z l empty ft c here = absurd (z (sym c))
   walk-past z l (tree h a d b) ft c here = absurd (omega (arith, here.ends, length-tree s end at h a d b here))
 
-  pub walk-fault : (o : Bool) → (n ≡ 0 → ⊥) → o ≡ own (get_or s at 0) names → o ≡ false → Walked s end at n names 8192
+  pub walk-fault : (o : Bool) → (n ≡ 0 → ⊥) → o ≡ own (get_or s at 0) names → o ≡ false → Walked s end at n names None
   unfolding Walked count sing
   walk-fault o z e t empty ft c here = absurd (z (sym c))
   walk-fault o z e t (tree h a d b) ft c here =
       let q : own h names ≡ false = ap (λ k. own k names) (sym (here-word s end at h a d b here)) ∙ sym e ∙ t in
       rw q
 
-  pub walk-on : (o : Bool) (i j m e g r : ℕ) → (n ≡ 0 → ⊥) → o ≡ own (get_or s at 0) names → o ≡ true → i ≡ outer (get_or s at 0) → Walked s end (at + 1) i 0 m
-      → j ≡ inner (get_or s at 0) → Walked s end m j 0 e → g ≡ noted (get_or s at 0) names → Walked s end e (n - 1) g r
-      → m ≤ e → e ≤ r → e ≤ 8192 → r ≤ 8192 → Walked s end at n names r
-  unfolding Walked count sing Fits
-  walk-on o i j m e g r z eo t ei wa ej wc eg wb me er e8 r8 empty ft c here = absurd (z (sym c))
-  walk-on o i j m e g r z eo t ei wa ej wc eg wb me er e8 r8 (tree h a d b) ft c here =
-      let hh = here-word s end at h a d b here in
-      let q : own h names ≡ true = ap (λ k. own k names) (sym hh) ∙ sym eo ∙ t in
-      let x = wa a ft.2 (ft.0 ∙ sym (ei ∙ ap outer hh)) (here-outer s end at h a d b here) in
-      let y : sing a 0 ≡ true → e ≡ answer (sing d 0) (at + 1 + length (words a) + length (words d)) = λ sa.
-      (let ma : m ≡ at + 1 + length (words a) = x ∙ ap (λ u. answer u (at + 1 + length (words a))) sa in
-      wc d ft.3 (ft.1 ∙ sym (ej ∙ ap inner hh)) (here-inner s end at h a d b here m ma) ∙ ap (λ u. answer (sing d 0) (u + length (words d))) ma) in
-      let v : sing a 0 ≡ true → sing d 0 ≡ true → r ≡ answer (sing b (noted h names)) (at + 1 + length (words a) + length (words d) + length (words b)) = λ sa sd.
-      (let ea : e ≡ at + 1 + length (words a) + length (words d) = y sa ∙ ap (λ u. answer u (at + 1 + length (words a) + length (words d))) sd in
-      wb b ft.4 (omega arith) (here-next s end at h a d b here e ea) ∙ ap (λ u. answer (sing b g) (u + length (words b))) ea ∙ ap (λ u. answer (sing b u) (at + 1 + length (words a) + length (words d) + length (words b))) (eg ∙ ap (λ k. noted k names) hh)) in
-      let l : at + length (words (tree h a d b)) ≡ at + 1 + length (words a) + length (words d) + length (words b) = omega (arith, length-tree s end at h a d b here) in
-      rw (q, l) (chain at m e r (length (words a)) (length (words d)) (length (words b)) (sing a 0) (sing d 0) (sing b (noted h names)) x y v me er e8 r8)
+  module _ (o : Bool) (i : ℕ) (z : n ≡ 0 → ⊥) (eo : o ≡ own (get_or s at 0) names) (t : o ≡ true) (ei : i ≡ outer (get_or s at 0)) where
+    -- the first tree's own test was passed
+    owned : (h : ℕ) (a d b : Forest) → Here s end at (words (tree h a d b)) → own h names ≡ true
+    owned h a d b here = ap (λ k. own k names) (sym (here-word s end at h a d b here)) ∙ sym eo ∙ t
+
+    -- what was found of its outer operands
+    walked-outer : (r : Option ℕ) → Walked s end (at + 1) i 0 r → (h : ℕ) (a d b : Forest) → Fits (tree h a d b) → Here s end at (words (tree h a d b)) → r ≡ answer (sing a 0) (at + 1 + length (words a))
+    unfolding Walked Fits
+    walked-outer r wa h a d b ft here = wa a ft.2 (ft.0 ∙ sym (ei ∙ ap outer (here-word s end at h a d b here))) (here-outer s end at h a d b here)
+
+    pub walk-outer : Walked s end (at + 1) i 0 None → Walked s end at n names None
+    unfolding Walked count sing
+    walk-outer wa empty ft c here = absurd (z (sym c))
+    walk-outer wa (tree h a d b) ft c here = rw (owned h a d b here, stopped (sing a 0) _ (walked-outer None wa h a d b ft here))
+
+    module _ (j m : ℕ) (wa : Walked s end (at + 1) i 0 (Some m)) (ej : j ≡ inner (get_or s at 0)) where
+      outer-end : (h : ℕ) (a d b : Forest) → Fits (tree h a d b) → Here s end at (words (tree h a d b)) → (sing a 0 ≡ true) × (m ≡ at + 1 + length (words a))
+      outer-end h a d b ft here = went (sing a 0) _ m (walked-outer (Some m) wa h a d b ft here)
+
+      walked-inner : (r : Option ℕ) → Walked s end m j 0 r → (h : ℕ) (a d b : Forest) → Fits (tree h a d b) → Here s end at (words (tree h a d b)) → r ≡ answer (sing d 0) (m + length (words d))
+      unfolding Walked Fits
+      walked-inner r wc h a d b ft here =
+          wc d ft.3 (ft.1 ∙ sym (ej ∙ ap inner (here-word s end at h a d b here))) (here-inner s end at h a d b here m (outer-end h a d b ft here).1)
+
+      pub walk-inner : Walked s end m j 0 None → Walked s end at n names None
+      unfolding Walked count sing
+      walk-inner wc empty ft c here = absurd (z (sym c))
+      walk-inner wc (tree h a d b) ft c here =
+          rw (owned h a d b here, (outer-end h a d b ft here).0, stopped (sing d 0) _ (walked-inner None wc h a d b ft here))
+
+      pub walk-on : (e g : ℕ) (r : Option ℕ) → Walked s end m j 0 (Some e) → g ≡ noted (get_or s at 0) names → Walked s end e (n - 1) g r → Walked s end at n names r
+      unfolding Walked count sing Fits
+      walk-on e g r wc eg wb empty ft c here = absurd (z (sym c))
+      walk-on e g r wc eg wb (tree h a d b) ft c here =
+          let x = outer-end h a d b ft here in
+          let y = went (sing d 0) _ e (walked-inner (Some e) wc h a d b ft here) in
+          let k : e ≡ at + 1 + length (words a) + length (words d) = omega (arith, x.1, y.1) in
+          let l : e + length (words b) ≡ at + length (words (tree h a d b)) = omega (arith, k, length-tree s end at h a d b here) in
+          rw (owned h a d b here, x.0, y.0)
+          (wb b ft.4 (omega arith) (here-next s end at h a d b here e k) ∙ ap₂ answer (ap (sing b) (eg ∙ ap (λ k. noted k names) (here-word s end at h a d b here))) l)
 
 pub ruleset laws = (rules, fresh-first, fresh-second, fresh-third, fresh-yes, apart-one, apart-not, apart-two, apart-first, apart-second, apart-three, own_same, own-other, own-field, own-method, own-taken, own-none, noted-node, noted-header)
 
-pub ruleset walk-laws = (rules, walk_none, walk-past, walk-fault, walk-on)
+pub ruleset walk_laws = (rules, walk_none, walk-past, walk-fault, walk-outer, walk-inner, walk-on)

@@ -1,5 +1,5 @@
 -- That names are single in the lines, one line after another, is that they are in the script that the lines join to. Assumes nothing.
-use Rattle.std.specs.Prelude.{ℕ, ◌+◌, ◌-◌, ◌≤◌, ◌≡◌, Bool, true, false, ◌&&◌, length, get_or}
+use Rattle.std.specs.Prelude.{ℕ, ◌+◌, ◌-◌, ◌≤◌, ◌≡◌, Bool, true, false, ◌&&◌, Option, Some, None, length, take, get_or}
 use Rattle.std.proofs.Math.Path.{refl}
 use Rattle.std.proofs.Common.{ap, ◌∙◌, sym, arith, rules}
 use Rattle.std.proofs.Math.Bool.{and-true}
@@ -45,7 +45,7 @@ lines_join (define x d ∷ l ∷ ls) e j =
     ap (λ b. single d && b) (lines_join (l ∷ ls) q.0 q.1) ∙ ap single (done-same (let_in x d q.0) e q.2)
 
 -- what the walk answers of an expression
-walk-src : (s : List ℕ) (end at m : ℕ) (e : Src) (w : ℕ) → w ≤ 4000 → Grammatical w e → Here s end at (wide_src e) → Walked s end at 1 0 m → m ≡ answer (single e) (at + length (wide_src e))
+walk-src : (s : List ℕ) (end at : ℕ) (m : Option ℕ) (e : Src) (w : ℕ) → w ≤ 4000 → Grammatical w e → Here s end at (wide_src e) → Walked s end at 1 0 m → m ≡ answer (single e) (at + length (wide_src e))
 unfolding Walked words count
 walk-src s end at m e w l g h k =
     k (put e empty) (fits-put e empty w l g none) (count-put e empty) (here-words s end at e h)
@@ -63,7 +63,7 @@ module _ (s : List ℕ) (end at left : ℕ) where
   lines-past z p [] w l g n h = absurd (z n)
   lines-past z p (k ∷ ls) w l g n h = absurd (omega (arith, not-past s end at k ls h))
 
-  module _ (b m : ℕ) (z : left ≡ 0 → ⊥) (st : Start (get_or s at 0) at b) (k : Walked s end b 1 0 m) where
+  module _ (b : ℕ) (m : Option ℕ) (z : left ≡ 0 → ⊥) (st : Start (get_or s at 0) at b) (k : Walked s end b 1 0 m) where
     of-expression : (e : Src) (ls : List Line) (w : ℕ) → w ≤ 4000 → Grammatical w e → Here s end at (wide_lines (expression e ∷ ls)) → m ≡ answer (single e) (at + length (wide_src e))
     of-expression e ls w l g h =
         let q : b ≡ at = st.is ∙ line-start s end at e ls h in
@@ -74,28 +74,25 @@ module _ (s : List ℕ) (end at left : ℕ) where
         let q : b ≡ at + 1 = st.is ∙ define-start s end at x e ls h in
         walk-src s end (at + 1) m e w l g (define-src s end at x e ls h) (rw q at k)
 
-    pub lines-fault : end ≤ 4096 → m ≡ 8192 → LinesSingle s end at left false
+  module _ (b : ℕ) (z : left ≡ 0 → ⊥) (st : Start (get_or s at 0) at b) where
+    pub lines-fault : Walked s end b 1 0 None → LinesSingle s end at left false
     unfolding LinesSingle single_lines GrammaticalLines
-    lines-fault f t [] w l g n h = absurd (z n)
-    lines-fault f t (expression e ∷ ls) w l g n h =
-        rw (stopped (single e) _ m (of-expression e ls w l g.0 h) (omega (arith, (line-src s end at e ls h).ends)) t)
-    lines-fault f t (define x e ∷ ls) w l g n h =
-        rw (stopped (single e) _ m (of-define x e ls w l g.1 h) (omega (arith, (define-src s end at x e ls h).ends)) t)
+    lines-fault k [] w l g n h = absurd (z n)
+    lines-fault k (expression e ∷ ls) w l g n h = rw (stopped (single e) _ (of-expression b None z st k e ls w l g.0 h))
+    lines-fault k (define x e ∷ ls) w l g n h = rw (stopped (single e) _ (of-define b None z st k x e ls w l g.1 h))
 
-    pub lines-on : (r : Bool) → (m ≡ 8192 → ⊥) → LinesSingle s end m (left - 1) r → LinesSingle s end at left r
+    pub lines-on : (m : ℕ) (r : Bool) → Walked s end b 1 0 (Some m) → LinesSingle s end m (left - 1) r → LinesSingle s end at left r
     unfolding LinesSingle single_lines GrammaticalLines
-    lines-on r t i [] w l g n h = absurd (z n)
-    lines-on r t i (expression e ∷ ls) w l g n h =
-        let a = of-expression e ls w l g.0 h in
-        let y = went (single e) _ m a t in
-        rw y (i ls w l g.1 (omega arith) (line-rest s end at e ls m (a ∙ rw y) h))
-    lines-on r t i (define x e ∷ ls) w l g n h =
-        let a = of-define x e ls w l g.1 h in
-        let y = went (single e) _ m a t in
-        rw y (i ls w l g.2 (omega arith) (define-rest s end at x e ls h m (a ∙ rw y)))
+    lines-on m r k i [] w l g n h = absurd (z n)
+    lines-on m r k i (expression e ∷ ls) w l g n h =
+        let y = went (single e) _ m (of-expression b (Some m) z st k e ls w l g.0 h) in
+        rw y.0 (i ls w l g.1 (omega arith) (line-rest s end at e ls m y.1 h))
+    lines-on m r k i (define x e ∷ ls) w l g n h =
+        let y = went (single e) _ m (of-define b (Some m) z st k x e ls w l g.1 h) in
+        rw y.0 (i ls w l g.2 (omega arith) (define-rest s end at x e ls h m y.1))
 
-pub single-all : (s : List ℕ) (words lines : ℕ) (r : Bool) → LinesSingle s words 0 lines r → Single s words lines r
+pub single-all : (s : List ℕ) (words lines k : ℕ) (r : Bool) → k ≡ words → LinesSingle (take k s) (length (take k s)) 0 lines r → Single s words lines r
 unfolding Single LinesSingle
-single-all s words lines r i ls e w st j l g = i ls w l g st.count (here-all s words lines ls st) ∙ lines_join ls e j
+single-all s words lines k r d i ls e w st j l g = (rw d at i) ls w l g st.count (here-all s words lines ls st) ∙ lines_join ls e j
 
 pub ruleset laws = (rules, lines_none, lines-past, lines-fault, lines-on, single-all)

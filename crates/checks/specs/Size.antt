@@ -1,7 +1,7 @@
 -- The nodes of a script are the wide words whose kind is below 128, and one for each line but the last. Assumes nothing.
-use Rattle.std.specs.Prelude.{ℕ, suc, ◌+◌, ◌-◌, ◌%◌, ◌≤◌, ◌<◌, ◌≡◌, refl, cond, List, [], ◌∷◌, ◌++◌, ltb, length, get_or, take}
-use Rattle.std.proofs.Common.{sym, ap, ◌∙◌, add-zero, zero-add, add-one, arith, rules, lt-ltb, le-ltb}
-use Rattle.std.proofs.Math.Seq.{slice, slice-cons, slice_empty}
+use Rattle.std.specs.Prelude.{ℕ, ◌+◌, ◌-◌, ◌%◌, ◌≤◌, ◌<◌, ◌≡◌, refl, Bool, true, false, cond, nat_lt, count_by, List, [], ◌∷◌, ◌++◌, ltb, length, take}
+use Rattle.std.proofs.Common.{sym, ap, ◌∙◌, zero-add, arith, rules, lt-ltb, le-ltb}
+use Rattle.std.proofs.lemmas.List.Recursion.{is_count_by}
 use Rattle.atlite.specs.Base.{done}
 use Rattle.atlite.specs.Script.{seq, Src, num, null, var, op, let_in, future, fn, when, literal, Srcs, nil, cons, SrcFields, no_field, field, SrcMethods, no_method, method, Line, expression, define, size, size_all, size_fields, size_methods, join}
 use Rattle.atlite_laws.specs.Facts.{refused-done}
@@ -12,51 +12,28 @@ use Rattle.layout.specs.Terms.{kind_number}
 use Rattle.layout.specs.Tables.{src_kind}
 use Rattle.checks.specs.Operators.{op-passed}
 use Rattle.layout_laws.specs.Results.{done-same, bind_done}
-use Rattle.checks.specs.LinesAt.{Stands, within}
+use Rattle.checks.specs.LinesAt.{Stands}
 use Rattle.words.specs.Wide.{wide_kinds, wide, wide_method, wide_src, wide_srcs, wide_fields, wide_methods, wide_line, wide_lines}
 
-unfoldable pub is_node : ℕ → ℕ
+unfoldable is_node : ℕ → ℕ
 is_node h = cond (ltb (h % wide_kinds) field_kind) 1 0
 
-unfoldable pub nodes_in : List ℕ → ℕ
+unfoldable nodes_in : List ℕ → ℕ
 nodes_in [] = 0
 nodes_in (h ∷ w) = is_node h + nodes_in w
-
-pub record NodeOf (h r : ℕ) : Type 0 where
-  pub is : r ≡ is_node h
-  pub small : r ≤ 1
 
 -- of lines that stand in the words and join to a script, r is the script's size
 unfoldable pub Size : List ℕ → ℕ → ℕ → ℕ → Type 0
 Size s words lines r = (ls : List Line) (e : Src) → Stands s words lines ls → join ls ≡ done e → r ≡ size e
 
-pub node-yes : (h : ℕ) → h % wide_kinds < field_kind → NodeOf h 1
-unfolding is_node
-node-yes h t = record { is = rw (lt-ltb (h % wide_kinds) field_kind t); small = omega arith }
-
-pub node-no : (h : ℕ) → field_kind ≤ h % wide_kinds → NodeOf h 0
-unfolding is_node
-node-no h t = record { is = rw (le-ltb (h % wide_kinds) field_kind t); small = omega arith }
-
--- ---- the loop
-unfoldable pub Counting : List ℕ → ℕ → ℕ → ℕ → Type 0
-Counting w end n i = end ≤ length w → n + nodes_in (slice i end w) ≡ nodes_in (take end w)
-
-pub count-start : (w : List ℕ) (end : ℕ) → Counting w end 0 0
-unfolding Counting
-count-start w end b = zero-add _
-
-pub count-on : (w : List ℕ) (end n i r : ℕ) → Counting w end n i → i < end → NodeOf (get_or w i 0) r → Counting w end (n + r) (i + 1)
-unfolding Counting nodes_in
-count-on w end n i r h a e b =
-    let s : nodes_in (slice i end w) ≡ is_node (get_or w i 0) + nodes_in (slice (suc i) end w) = ap nodes_in (slice-cons i end w 0 a b) in
-    rw add-one (omega (arith, e.is, s, h b))
-
-counted : (w : List ℕ) (end n i : ℕ) → Counting w end n i → end ≤ length w → i ≤ end → end ≤ i → n ≡ nodes_in (take end w)
-unfolding Counting nodes_in
-counted w end n i h b a z =
-    let e : i ≡ end = omega arith in
-    sym (add-zero n) ∙ ap (λ (l : List ℕ). n + nodes_in l) (sym (ap (λ (j : ℕ). slice j end w) e ∙ slice_empty end w)) ∙ h b
+-- how many words are nodes and no headers
+node_count : (w : List ℕ) → nodes_in w ≡ count_by (λ h. nat_lt (h % wide_kinds) field_kind) w
+unfolding is_node nodes_in
+node_count w = is_count_by nodes_in (λ h. nat_lt (h % wide_kinds) field_kind) refl (λ h w. go (nat_lt (h % wide_kinds) field_kind) (nodes_in w)) w
+  where
+    go : (b : Bool) (n : ℕ) → cond b 1 0 + n ≡ cond b (1 + n) n
+    go true n = refl
+    go false n = zero-add n
 
 -- ---- the words of a script
 nodes-append : (v w : List ℕ) → nodes_in (v ++ w) ≡ nodes_in v + nodes_in w
@@ -65,10 +42,12 @@ nodes-append [] w = sym (zero-add (nodes_in w))
 nodes-append (h ∷ v) w = rw (nodes-append v w) (omega arith)
 
 is-node : (k p : ℕ) → k < field_kind → is_node (wide k p) ≡ 1
-is-node k p h = sym (node-yes (wide k p) (omega arith)).is
+unfolding is_node
+is-node k p h = let e : wide k p % wide_kinds ≡ k = omega arith in rw e (rw (lt-ltb k field_kind h) refl)
 
 is-header : (k p : ℕ) → field_kind ≤ k → k < wide_kinds → is_node (wide k p) ≡ 0
-is-header k p h l = sym (node-no (wide k p) (omega arith)).is
+unfolding is_node
+is-header k p h l = let e : wide k p % wide_kinds ≡ k = omega arith in rw e (rw (le-ltb k field_kind h) refl)
 
 literal-node : (k : Kind) (p : ℕ) → is_node (wide (kind_number k) p) ≡ 1
 unfolding kind_number
@@ -136,13 +115,14 @@ nodes-lines (define x d ∷ l ∷ ls) e j =
     omega (arith, no_part (wide 130 x) (wide_src d) (flat wide_line (l ∷ ls)) _ _ (is-header 130 x (omega arith) (omega arith)) (nodes-src d) refl, ap size z, i)
 
 -- ---- the ways to return
-pub size_none : (s : List ℕ) (words n lines i : ℕ) → Counting s words n i → i ≤ words → words ≤ i → lines ≡ 0 → Size s words lines n
-unfolding Size join
-size_none s words n lines i h a b z [] e st j = absurd (refused-done j)
-size_none s words n lines i h a b z (l ∷ ls) e st j = absurd (omega (arith, st.count))
+module _ (s : List ℕ) (words lines k n : ℕ) (d : k ≡ words) (c : n ≡ count_by (λ h. nat_lt (h % wide_kinds) field_kind) (take k s)) where
+  pub size_none : lines ≡ 0 → Size s words lines n
+  unfolding Size join
+  size_none z [] e st j = absurd (refused-done j)
+  size_none z (l ∷ ls) e st j = absurd (omega (arith, st.count))
 
-pub size-some : (s : List ℕ) (words n lines i : ℕ) → Counting s words n i → i ≤ words → words ≤ i → (lines ≡ 0 → ⊥) → Size s words lines (n + lines - 1)
-unfolding Size
-size-some s words n lines i h a b z ls e st j = omega (arith, counted s words n i h (within s words lines ls st) a b, ap nodes_in st.here, nodes-lines ls e j, st.count)
+  pub size-some : (lines ≡ 0 → ⊥) → Size s words lines (n + lines - 1)
+  unfolding Size
+  size-some z ls e st j = omega (arith, c ∙ sym (node_count (take k s)) ∙ ap (λ i. nodes_in (take i s)) d, ap nodes_in st.here, nodes-lines ls e j, st.count)
 
-pub ruleset laws = (rules, node-yes, node-no, count-start, count-on, size_none, size-some)
+pub ruleset laws = (rules, size_none, size-some)

@@ -2,9 +2,11 @@
 -- what is left to write, written, gives what was asked. Assumes nothing.
 use Rattle.std.specs.Prelude.{ℕ, suc, ◌+◌, ◌-◌, ◌*◌, ◌/◌, ◌%◌, ◌≤◌, ◌<◌, ◌≡◌, refl, List, [], ◌∷◌, ◌++◌, length, get_or, set, take, drop, replicate}
 use Rattle.std.proofs.Math.Path.{sym}
-use Rattle.std.proofs.Common.{ap, ◌∙◌, add-one, arith, rules, drop_of_length-le, drop-cons}
+use Rattle.std.proofs.Common.{ap, ◌∙◌, add-one, append_assoc, arith, rules, drop_of_length-le, drop-cons, drop-drop, length-drop, length-take-le}
 use borrow.Author.Tests.{eq-eqb, ne_eqb}
-use Rattle.std.proofs.lemmas.List.Edits.{sets}
+use Rattle.std.proofs.lemmas.List.Edits.{sets, sets-eq}
+use Rattle.std.proofs.lemmas.List.{length-replicate}
+use borrow.Rule.Slice.PartMut.{put_mid}
 use Rattle.std.proofs.Math.Seq.{slice, slice-cons, slice_empty}
 use Rattle.atlite.specs.Lexicon.{Bytes}
 use Rattle.layout.specs.Numbers.{payload, method_unit, name_limit, no_name, tagged_limit, lines_at}
@@ -85,23 +87,15 @@ WordsPut old low high count new = (ws : List Bytes) → count ≡ length ws → 
 unfoldable pub WordPut : List ℕ → ℕ → ℕ → ℕ → List ℕ → Type 0
 WordPut old at low high new = new ≡ sets old at (low % 4294967296 ∷ low / 4294967296 ∷ high ∷ [])
 
--- what is left to clear
-unfoldable pub Clearing : List ℕ → ℕ → ℕ → List ℕ → ℕ → Type 0
-Clearing old a b new i = sets new i (zeros (b - i)) ≡ sets old a (zeros (b - a))
-
-pub clear-start : (old : List ℕ) (a b : ℕ) → Clearing old a b old a
-unfolding Clearing
-clear-start old a b = refl
-
-pub clear-on : (old : List ℕ) (a b : ℕ) (new : List ℕ) (i : ℕ) → Clearing old a b new i → i < b → Clearing old a b (set new i 0) (i + 1)
-unfolding Clearing zeros
-clear-on old a b new i h l =
-    let e : b - i ≡ suc (b - suc i) = omega arith in
-    rw (add-one i) (ap (λ n. sets new i (replicate n 0)) (sym e) ∙ h)
-
-pub clear-done : (old : List ℕ) (a b : ℕ) (new : List ℕ) (i : ℕ) → Clearing old a b new i → b ≤ i → Cleared old a b new
-unfolding Clearing Cleared zeros
-clear-done old a b new i h l = let e : b - i ≡ 0 = omega arith in ap (λ n. sets new i (replicate n 0)) (sym e) ∙ h
+-- a part of the words that is filled with zeros
+pub cleared : (old : List ℕ) (a b : ℕ) (new : List ℕ) → a ≤ b → b ≤ length old → new ≡ replicate (length (take (b - a) (drop a old))) 0 → Cleared old a b (put_mid a (b - a) old new)
+unfolding Cleared zeros
+cleared old a b new l h e =
+    let zs : List ℕ = replicate (b - a) 0 in
+    let n : length (take (b - a) (drop a old)) ≡ b - a = length-take-le (b - a) (drop a old) (omega (arith, length-drop a old)) in
+    let z : length zs ≡ b - a = length-replicate {A = ℕ} (b - a) 0 in
+    rw (e, n, drop-drop (b - a) a old)
+    (sym (sets-eq zs old a (omega (arith, z)) ∙ rw z (append_assoc (take a old) zs (drop (a + (b - a)) old))))
 
 -- ---- the lines
 unfoldable pub Lining : List ℕ → List ℕ → ℕ → List ℕ → ℕ → Type 0
@@ -166,6 +160,6 @@ word-done old low high count new k h l ws e n =
     let z : length ws ≤ k = omega arith in
     ap (λ w. sets new (3 * k + 3) (flat encode_word w)) (sym (drop_of_length-le ws z)) ∙ h ws e n
 
-pub ruleset laws = (rules, placed-none, placed-some, table-word, method-word, narrow-future, narrow-call, narrow-send, narrow-ask, narrow-method, narrow-other, clear-start, clear-on, clear-done, word-put, word-start, word_on, word-done)
+pub ruleset laws = (rules, placed-none, placed-some, table-word, method-word, narrow-future, narrow-call, narrow-send, narrow-ask, narrow-method, narrow-other, word-put, word-start, word_on, word-done)
 
-pub ruleset line-laws = (rules, line-start, line_on, line-done)
+pub ruleset line_laws = (rules, line-start, line_on, line-done)

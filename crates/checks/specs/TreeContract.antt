@@ -1,7 +1,9 @@
--- What the functions of one word find, and how a pass over trees goes on from one to the next. A pass answers the end of the trees, or
--- 8192, past every word, where it found a fault; so an answer handed on as a position makes each later answer the same. Assumes nothing.
-use Rattle.std.specs.Prelude.{ℕ, ◌+◌, ◌/◌, ◌%◌, ◌≤◌, ◌≡◌, Bool, true, false, cond, ◌&&◌, List, [], ◌∷◌, ◌++◌, length, get_or}
+-- What the functions of one word find, and how a pass over trees goes on from one to the next. A pass answers the end of the trees, if it
+-- found no fault. Assumes nothing.
+use Rattle.std.specs.Prelude.{ℕ, ◌+◌, ◌/◌, ◌%◌, ◌≤◌, ◌≡◌, Bool, true, false, Option, Some, None, List, [], ◌∷◌, ◌++◌, length, get_or}
+use Rattle.std.specs.Bool.{then_some}
 use Rattle.std.proofs.Math.Path.{refl}
+use Rattle.std.proofs.lemmas.Option.{same_Some}
 use Rattle.std.proofs.Common.{sym, ap, ◌∙◌, append_assoc, arith, rules, ne_eqb}
 use Rattle.std.proofs.Math.ListN.{length-append}
 use Rattle.std.proofs.lemmas.List.{get_or_at}
@@ -88,23 +90,16 @@ no-tree empty e = refl
 no-tree (tree h a c b) e = absurd (omega arith)
 
 -- what a pass answers of trees whose words end at n
-abbrev pub answer : Bool → ℕ → ℕ
-answer b n = cond b n 8192
+abbrev pub answer : Bool → ℕ → Option ℕ
+answer b n = then_some b n
 
 -- the answer tells which it was
-pub stopped : (b : Bool) (n m : ℕ) → m ≡ answer b n → n ≤ 4096 → m ≡ 8192 → b ≡ false
-stopped true n m e l z = absurd (omega arith)
-stopped false n m e l z = refl
+pub stopped : (b : Bool) (n : ℕ) → None ≡ answer b n → b ≡ false
+stopped true n e = cc
+stopped false n e = refl
 
-pub went : (b : Bool) (n m : ℕ) → m ≡ answer b n → (m ≡ 8192 → ⊥) → b ≡ true
-went true n m e z = refl
-went false n m e z = absurd (z e)
-
--- the answers for a word's operands and for what follows it, one handed on to the next
-pub chain : (at m e r la lc lb : ℕ) (A C B : Bool) → m ≡ answer A (at + 1 + la) → (A ≡ true → e ≡ answer C (at + 1 + la + lc)) → (A ≡ true → C ≡ true → r ≡ answer B (at + 1 + la + lc + lb))
-    → m ≤ e → e ≤ r → e ≤ 8192 → r ≤ 8192 → r ≡ answer (A && (C && B)) (at + 1 + la + lc + lb)
-chain at m e r la lc lb true true B x y z i j k l = z refl refl
-chain at m e r la lc lb true false B x y z i j k l = omega (arith, y refl)
-chain at m e r la lc lb false C B x y z i j k l = omega arith
+pub went : (b : Bool) (n m : ℕ) → Some m ≡ answer b n → (b ≡ true) × (m ≡ n)
+went true n m e = (refl, same_Some m n e)
+went false n m e = cc
 
 pub ruleset laws = (rules, outer-is, inner-is, outer-row, inner-none)

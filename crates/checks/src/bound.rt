@@ -2,7 +2,8 @@
 //
 // `last` keeps for each name the level of its innermost binding, 0 where it has none. Levels count the binders around; a name is in scope
 // where its level is above the base. An isolate's or an actor's literal hides what is bound around it: inside, the level is the base.
-ghost use Rattle.std.specs.Prelude.{◌≡◌, ◌+◌, ◌≤◌, ◌<◌, replicate};
+ghost use Rattle.std.specs.Prelude.{◌≡◌, ◌+◌, ◌≤◌, ◌<◌, length, replicate};
+ghost use Rattle.std.specs.Option.{IfSome};
 ghost use Rattle.words.specs.Wide.{wide_limit};
 ghost use Rattle.checks.specs.Trees.{inner};
 ghost use Rattle.checks.specs.BoundLines.{LinesBound, AllBound};
@@ -20,45 +21,33 @@ struct Levels {
 }
 
 // Whether the word `h` is no variable, or is one in scope.
+#[tactic(auto, unfolding(crate::specs::Bound::sees))]
 fn sees(h: u64, base: u16, last: &[u16; 4096]) -> bool
     ensures { result ≡ sees_in h base last.now }
 {
-    if h % wide::KINDS == 6 {
-        let x = (h / wide::KINDS % wide::LIMIT) as usize;
-        if x == 0 {
-            return true;
-        }
-        if base < last[x] {
-            return true;
-        }
-        return false;
-    }
-    true
+    let x = (h / wide::KINDS % wide::LIMIT) as usize;
+    h % wide::KINDS != 6 || x == 0 || base < last[x]
 }
 
 // The base inside the word `h`.
+#[tactic(auto, using(crate::specs::Bound::laws))]
 fn base_of(h: u64, base: u16, level: u16) -> u16
     ensures { Base h base level result }
 {
-    let k = h % wide::KINDS;
-    match k {
-        16 => level,
-        17 => level,
+    match h % wide::KINDS {
+        16 | 17 => level,
         _ => base,
     }
 }
 
 // The names that the word `h` binds, three of 12 bits, 0 where there are fewer.
+#[tactic(auto, using(crate::specs::Bound::laws))]
 fn binds(h: u64) -> u64
     ensures { result ≡ binds_of h }
 {
-    let k = h % wide::KINDS;
     let p = h / wide::KINDS;
-    match k {
-        11 => p,
-        12 => p,
-        65 => p,
-        67 => p,
+    match h % wide::KINDS {
+        11 | 12 | 65 | 67 => p,
         192 => p / wide::PARAMS,
         _ => 0,
     }
@@ -93,104 +82,94 @@ fn unbind(last: &mut [u16; 4096], names: u64, old: Levels)
     swap(last, (names / wide::THIRD % wide::LIMIT) as usize, old.z);
 }
 
-// The end of the `n` trees at `at`, or 8192 where a variable in them is not bound.
-#[cycle(scan_scan_inside)]
+// The end of the `n` trees at `at`, if every variable in them is bound.
+#[cycle(scans)]
 fn scan(
-    s: &[u64; 4096],
-    words: usize,
+    s: &[u64],
     at: usize,
     n: usize,
     base: u16,
     level: u16,
     last: &mut [u16; 4096],
-) -> usize
-    requires { (words ≤ 4096) × (at ≤ 8192) × (level ≤ at) }
-    ensures scanned { Scanned s.now words at n base level last.old result }
+) -> Option<usize>
+    requires { (length s.now ≤ 4096) × (at ≤ 4096) × (level ≤ at) }
+    ensures scanned { Scanned s.now (length s.now) at n base level last.old result }
     ensures kept { Kept last.old last.new }
-    ensures lower_bound { (at ≤ result) × (result ≤ 8192) }
+    ensures behind { IfSome result (λ e. (at ≤ e) × (e ≤ 4096)) }
 {
     if n == 0 {
-        return at;
+        return Some(at);
     }
-    if words <= at {
-        return 8192;
+    if s.len() <= at {
+        return None;
     }
     let h = s[at];
-    if sees(h, base, last) {
-        let inside = base_of(h, base, level);
-        let m = scan(s, words, at + 1, tree::outer(h), inside, level, last);
-        let e = scan_inside(s, words, m, h, inside, level, last);
-        return scan(s, words, e, n - 1, base, level, last);
+    if !sees(h, base, last) {
+        return None;
     }
-    8192
+    let within = base_of(h, base, level);
+    let m = scan(s, at + 1, tree::outer(h), within, level, last)?;
+    let e = scan_inside(s, m, h, within, level, last)?;
+    scan(s, e, n - 1, base, level, last)
 }
 
 // The same of the trees at `at` that stand in the scope that the word `h` opens.
-#[cycle(scan_scan_inside)]
+#[cycle(scans)]
 fn scan_inside(
-    s: &[u64; 4096],
-    words: usize,
+    s: &[u64],
     at: usize,
     h: u64,
     base: u16,
     level: u16,
     last: &mut [u16; 4096],
-) -> usize
-    requires { (words ≤ 4096) × (at ≤ 8192) × (level < at) }
-    ensures scanned { Scanned s.now words at (inner h) base (level + 1) (bind_all last.old (binds_of h) (level + 1)) result }
+) -> Option<usize>
+    requires { (length s.now ≤ 4096) × (at ≤ 4096) × (level < at) }
+    ensures scanned { Scanned s.now (length s.now) at (inner h) base (level + 1) (bind_all last.old (binds_of h) (level + 1)) result }
     ensures kept { Kept last.old last.new }
-    ensures lower_bound { (at ≤ result) × (result ≤ 8192) }
+    ensures behind { IfSome result (λ e. (at ≤ e) × (e ≤ 4096)) }
 {
     let names = binds(h);
     let old = bind(last, names, level + 1);
-    let e = scan(s, words, at, tree::inner(h), base, level + 1, last);
+    let e = scan(s, at, tree::inner(h), base, level + 1, last);
     unbind(last, names, old);
     e
 }
 
 // Whether variables are bound in the `left` lines at `at`. A definition's word is bound for the lines below it.
-fn lines_bound(
-    s: &[u64; 4096],
-    words: usize,
-    at: usize,
-    left: usize,
-    level: u16,
-    last: &mut [u16; 4096],
-) -> bool
-    requires { (words ≤ 4096) × (at ≤ 8192) × (level ≤ at) }
-    ensures lines_bound { LinesBound s.now words at left level last.old result }
+fn lines_bound(s: &[u64], at: usize, left: usize, level: u16, last: &mut [u16; 4096]) -> bool
+    requires { (length s.now ≤ 4096) × (at ≤ 4096) × (level ≤ at) }
+    ensures lines_bound { LinesBound s.now (length s.now) at left level last.old result }
     ensures kept { Kept last.old last.new }
 {
     if left == 0 {
         return true;
     }
-    if words <= at {
+    if s.len() <= at {
         return false;
     }
     let h = s[at];
-    if h % wide::KINDS == 130 {
-        let e = scan(s, words, at + 1, 1, 0, level, last);
-        if e == 8192 {
+    if h % wide::KINDS != 130 {
+        let Some(e) = scan(s, at, 1, 0, level, last) else {
             return false;
-        }
-        let x = (h / wide::KINDS % wide::LIMIT) as usize;
-        let old = swap(last, x, level + 1);
-        let r = lines_bound(s, words, e, left - 1, level + 1, last);
-        swap(last, x, old);
-        return r;
+        };
+        return lines_bound(s, e, left - 1, level, last);
     }
-    let e = scan(s, words, at, 1, 0, level, last);
-    if e == 8192 {
+    let Some(e) = scan(s, at + 1, 1, 0, level, last) else {
         return false;
-    }
-    lines_bound(s, words, e, left - 1, level, last)
+    };
+    let x = (h / wide::KINDS % wide::LIMIT) as usize;
+    let old = swap(last, x, level + 1);
+    let r = lines_bound(s, e, left - 1, level + 1, last);
+    swap(last, x, old);
+    r
 }
 
 // Whether every variable is bound in the script that the lines in the first `words` words join to. `last` is all zero, and is left so.
+#[tactic(auto, using(crate::specs::BoundLines::all_laws))]
 pub fn bound(s: &[u64; 4096], words: usize, lines: usize, last: &mut [u16; 4096]) -> bool
     requires { (words ≤ 4096) × (last.old ≡ replicate 4096 0) }
     ensures all_bound { AllBound s.now words lines result }
     ensures kept { Kept last.old last.new }
 {
-    lines_bound(s, words, 0, lines, 0, last)
+    lines_bound(&s[..words], 0, lines, 0, last)
 }

@@ -1,37 +1,19 @@
 // How many brackets of a text are open at once at most.
-ghost use Rattle.std.specs.Prelude.{◌≡◌, ◌+◌, ◌≤◌, length};
+ghost use Rattle.std.specs.Prelude.{◌≡◌, ◌≤◌, length};
 ghost use Rattle.atlite.specs.Reader.{depth as deepest};
-ghost use Rattle.checks.specs.Depth.{Opened, Most};
+ghost use Rattle.checks.specs.Depth.{Opened};
 
 // How many brackets are open behind the byte `b`.
+#[tactic(auto, using(crate::specs::Depth::laws))]
 fn opened(b: u8, up: usize) -> usize
     requires { up ≤ 4096 }
     ensures { Opened b up result }
 {
-    if b == 40 {
-        return up + 1;
+    match b {
+        b'(' => up + 1,
+        b')' => up.saturating_sub(1),
+        _ => up,
     }
-    if b == 41 {
-        if up == 0 {
-            return 0;
-        }
-        return up - 1;
-    }
-    up
-}
-
-// How many were open at most, behind the byte `b`.
-fn most_open(b: u8, up: usize, most: usize) -> usize
-    requires { up ≤ 4096 }
-    ensures { Most b up most result }
-{
-    if b == 40 {
-        if most <= up {
-            return up + 1;
-        }
-        return most;
-    }
-    most
 }
 
 // The depth of a text of at most 4,096 bytes.
@@ -41,12 +23,9 @@ pub fn depth(text: &[u8]) -> usize
 {
     let mut up = 0;
     let mut most = 0;
-    let mut i = 0;
-    while i < text.len() {
-        let b = text[i];
-        most = most_open(b, up, most);
-        up = opened(b, up);
-        i += 1;
+    for b in text {
+        up = opened(*b, up);
+        most = most.max(up);
     }
     most
 }

@@ -1,5 +1,5 @@
 // The words of a table, from a script in its scratch form and its dictionary.
-ghost use Rattle.std.specs.Prelude.{◌≡◌, ◌+◌, ◌*◌, ◌/◌, ◌%◌, ◌≤◌, ◌<◌, length, set};
+ghost use Rattle.std.specs.Prelude.{◌≡◌, ◌+◌, ◌*◌, ◌/◌, ◌%◌, ◌≤◌, ◌<◌, length};
 ghost use Rattle.layout.specs.Numbers.{lines_size, table_words};
 ghost use Rattle.words.specs.Wide.{wide_kinds};
 ghost use Rattle.checks.specs.Narrow.{table_word, narrow as narrowed};
@@ -23,6 +23,7 @@ const NO_NAME: u64 = layout::NO_NAME as u64;
 const TAGGED_LIMIT: u64 = layout::TAGGED_LIMIT as u64;
 
 // The table's word of kind `k` and payload `p`.
+#[tactic(auto, using(crate::specs::TableWriteLaws::laws))]
 fn table_word(k: u64, p: u64) -> u32
     requires { k < wide_kinds }
     ensures { result ≡ table_word k p }
@@ -31,6 +32,7 @@ fn table_word(k: u64, p: u64) -> u32
 }
 
 // A parameter's place: an empty one, 0 here, is 127 in a table.
+#[tactic(auto, using(crate::specs::TableWriteLaws::laws))]
 fn placed(x: u64) -> u64
     ensures { Placed x result }
 {
@@ -38,6 +40,7 @@ fn placed(x: u64) -> u64
 }
 
 // A method's header.
+#[tactic(auto, using(crate::specs::TableWriteLaws::laws))]
 fn method_word(p: u64) -> u32
     ensures { MethodWord p result }
 {
@@ -50,6 +53,7 @@ fn method_word(p: u64) -> u32
 }
 
 // A wide word as a table's.
+#[tactic(auto, using(crate::specs::TableWriteLaws::laws))]
 fn narrow(h: u64) -> u32
     ensures { result ≡ narrowed h }
 {
@@ -60,15 +64,7 @@ fn narrow(h: u64) -> u32
             k,
             p % wide::LIMIT + NAME_LIMIT * (p / wide::LIMIT % wide::LIMIT),
         ),
-        13 => table_word(
-            k,
-            p % wide::LIMIT + TAGGED_LIMIT * (p / wide::LIMIT % wide::LIMIT),
-        ),
-        14 => table_word(
-            k,
-            p % wide::LIMIT + TAGGED_LIMIT * (p / wide::LIMIT % wide::LIMIT),
-        ),
-        64 => table_word(
+        13 | 14 | 64 => table_word(
             k,
             p % wide::LIMIT + TAGGED_LIMIT * (p / wide::LIMIT % wide::LIMIT),
         ),
@@ -77,73 +73,49 @@ fn narrow(h: u64) -> u32
     }
 }
 
-// Writes one word.
-fn put(table: &mut [u32], at: usize, v: u32)
-    requires { at < length table.old }
-    ensures { table.new ≡ set table.old at v }
-{
-    table[at] = v;
-}
-
 // Writes zeros from `from` to `to`.
 fn clear(table: &mut [u32], from: usize, to: usize)
     requires { (from ≤ to) × (to ≤ length table.old) }
     ensures { Cleared table.old from to table.new }
 {
-    let mut i = from;
-    while i < to {
-        table[i] = 0;
-        i += 1;
-    }
+    table[from..to].fill(0);
 }
 
 // Writes the lines' words behind the head.
+#[tactic(auto, using(crate::specs::TableWriteLaws::line_laws))]
 fn put_lines(table: &mut [u32], s: &[u64; 4096], words: usize)
     requires { (table_words ≤ length table.old) × (words ≤ lines_size) }
     ensures { LinesPut table.old s.now words table.new }
 {
-    let mut i = 0;
-    while i < words {
-        put(table, LINES + i, narrow(s[i]));
-        i += 1;
+    for i in 0..words {
+        table[LINES + i] = narrow(s[i]);
     }
 }
 
-fn low_half(n: u64) -> u32
-    ensures { result ≡ n % 4294967296 }
-{
-    (n % 4294967296) as u32
-}
-
-fn high_half(n: u64) -> u32
-    ensures { result ≡ n / 4294967296 }
-{
-    (n / 4294967296) as u32
-}
-
 // Writes a word of the dictionary, whose bytes are a number of 96 bits: the lower 64 are `low`, the others `high`.
+#[tactic(auto, using(crate::specs::TableWriteLaws::laws))]
 fn put_word(table: &mut [u32], at: usize, low: u64, high: u32)
     requires { (at + 2 < length table.old) × (at ≤ 4096) }
     ensures { WordPut table.old at low high table.new }
 {
-    put(table, at, low_half(low));
-    put(table, at + 1, high_half(low));
-    put(table, at + 2, high);
+    table[at] = (low % 4294967296) as u32;
+    table[at + 1] = (low / 4294967296) as u32;
+    table[at + 2] = high;
 }
 
 // Writes the dictionary.
+#[tactic(auto, using(crate::specs::TableWriteLaws::laws))]
 fn put_words(table: &mut [u32], low: &[u64; 2048], high: &[u32; 2048], count: usize)
     requires { (table_words ≤ length table.old) × (count ≤ 64) }
     ensures { WordsPut table.old low.now high.now count table.new }
 {
-    let mut k = 0;
-    while k < count {
+    for k in 0..count {
         put_word(table, 3 * k + 3, low[k], high[k]);
-        k += 1;
     }
 }
 
 // Writes the table of the lines in the first `words` words of `s`, whose dictionary has `count` words.
+#[tactic(auto, using(crate::specs::TableRegions::laws))]
 pub fn write_table(
     s: &[u64; 4096],
     words: usize,
@@ -156,9 +128,9 @@ pub fn write_table(
     requires { (table_words ≤ length table.old) × (count ≤ 64) × (words ≤ lines_size) × (lines ≤ 4096) }
     ensures { Written s.now words lines low.now high.now count table.old table.new }
 {
-    put(table, 0, count as u32);
-    put(table, 1, lines as u32);
-    put(table, 2, words as u32);
+    table[0] = count as u32;
+    table[1] = lines as u32;
+    table[2] = words as u32;
     put_words(table, low, high, count);
     clear(table, 3 * count + 3, LINES);
     put_lines(table, s, words);
