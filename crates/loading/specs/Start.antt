@@ -3,12 +3,12 @@ use Rattle.std.specs.Prelude.{◌≡◌, get_or, set}
 use Rattle.std.proofs.Math.Path.{refl, ap, ap₂}
 use Rattle.std.proofs.Common.{sym, ◌∙◌, zero-add, rules, length-set}
 use mathlib.Core.List.{List, [], ◌∷◌, ◌++◌, append_assoc, append-nil}
-use Prim.Native.Nat.{ℕ, suc, ◌+◌, ◌-◌, ◌*◌, ◌≤◌, ◌<◌}
-use Rattle.std.proofs.Math.Nat.{add-zero}
+use Prim.Native.Nat.{ℕ, suc, ◌+◌, ◌-◌, ◌*◌, ◌≤◌}
 use native.Mathlib.Omega.{arith}
-use Rattle.std.proofs.Math.ListN.{length, length-append}
+use Rattle.std.proofs.Math.ListN.{length, take, drop, length-append}
+use Rattle.std.proofs.lemmas.Slice.{between_is}
 use Rattle.std.proofs.lemmas.List.Edits.{sets}
-use Rattle.std.proofs.Math.Seq.{slice, slice-cons, slice_empty, length-slice}
+use Rattle.std.proofs.Math.Seq.{slice, length-slice}
 use Rattle.atlite.specs.Term.{Term}
 use Rattle.atlite.specs.State.{Actor}
 use Rattle.layout.specs.Numbers.{expr_at, expr_size, queue_size, inbox_at, waiting_at, made_size, copied_size, made_at, copied_at, bodies_size, rest_size, part_size, head_size, parts_size, tail_size, state_words, table_words}
@@ -122,7 +122,7 @@ runs : (old mid new xs ys : List ℕ) (o i : ℕ) → mid ≡ sets old o xs → 
 runs old mid new xs ys o i a l b = b ∙ ap₂ (λ v j. sets v j ys) a (sym l) ∙ sets-append xs ys old o
 
 pub head-written : (t old m₁ m₂ m₃ new : List ℕ) → length t ≡ table_words
-    → m₁ ≡ set old 0 1 → m₂ ≡ set m₁ 1 (get_or t 0 0) → m₃ ≡ sets m₂ 2 (slice 3 195 t) → new ≡ sets m₃ 194 (zeros 67)
+    → m₁ ≡ set old 0 1 → m₂ ≡ set m₁ 1 (get_or t 0 0) → m₃ ≡ sets m₂ 2 (take (195 - 3) (drop 3 t)) → new ≡ sets m₃ 194 (zeros 67)
     → new ≡ sets old 0 (head_words (get_or t 0 0) (slice 3 195 t))
 unfolding head_words
 head-written t old m₁ m₂ m₃ new h a₁ a₂ a₃ a₄ =
@@ -130,11 +130,11 @@ head-written t old m₁ m₂ m₃ new h a₁ a₂ a₃ a₄ =
     let D = slice 3 195 t in
     let d = length-slice 3 195 t (omega arith) in
     let b₂ : m₂ ≡ sets old 0 (1 ∷ c ∷ []) = a₂ ∙ ap (λ v. set v 1 c) a₁ in
-    let b₃ = runs old m₂ m₃ (1 ∷ c ∷ []) D 0 2 b₂ refl a₃ in
+    let b₃ = runs old m₂ m₃ (1 ∷ c ∷ []) D 0 2 b₂ refl (a₃ ∙ ap (sets m₂ 2) (between_is t 3 195)) in
     runs old m₃ new (1 ∷ c ∷ D) (zeros 67) 0 194 b₃ (omega arith) a₄
 
 pub part-written : (s old m₁ m₂ m₃ new : List ℕ) (n : ℕ) → n ≤ length s → n ≤ expr_size
-    → m₁ ≡ set old (head_size + 5) n → m₂ ≡ sets m₁ 262 (zeros 10) → m₃ ≡ sets m₂ (head_size + expr_at) (slice 0 (0 + n) s) → new ≡ sets m₃ (head_size + expr_at + n) (zeros (state_words - (head_size + expr_at + n)))
+    → m₁ ≡ set old (head_size + 5) n → m₂ ≡ sets m₁ 262 (zeros 10) → m₃ ≡ sets m₂ (head_size + expr_at) (take (n - 0) (drop 0 s)) → new ≡ sets m₃ (head_size + expr_at + n) (zeros (state_words - (head_size + expr_at + n)))
     → new ≡ sets old (head_size + 5) (part_words n (slice 0 n s))
 unfolding part_words
 part-written s old m₁ m₂ m₃ new n k l a₁ a₂ a₃ a₄ =
@@ -144,7 +144,7 @@ part-written s old m₁ m₂ m₃ new n k l a₁ a₂ a₃ a₄ =
     let y = length-append (zeros 10) E in
     let j : state_words - (head_size + expr_at + n) ≡ state_words - (head_size + expr_at) - n = omega arith in
     let b₂ = runs old m₁ m₂ (n ∷ []) (zeros 10) (head_size + 5) 262 a₁ refl a₂ in
-    let b₃ = runs old m₂ m₃ (n ∷ zeros 10) E (head_size + 5) (head_size + expr_at) b₂ (omega arith) (a₃ ∙ ap (λ i. sets m₂ (head_size + expr_at) (slice 0 i s)) (zero-add n)) in
+    let b₃ = runs old m₂ m₃ (n ∷ zeros 10) E (head_size + 5) (head_size + expr_at) b₂ (omega arith) (a₃ ∙ ap (sets m₂ (head_size + expr_at)) (between_is s 0 n)) in
     runs old m₃ new (n ∷ (zeros 10 ++ E)) (zeros (state_words - (head_size + expr_at) - n)) (head_size + 5) (head_size + expr_at + n) b₃ (omega arith) (a₄ ∙ ap (λ i. sets m₃ (head_size + expr_at + n) (zeros i)) j)
     ∙ ap (λ v. sets old (head_size + 5) (n ∷ v)) (append_assoc (zeros 10) E (zeros (state_words - (head_size + expr_at) - n)))
 
@@ -153,33 +153,4 @@ pub state-written : (t old mid new w : List ℕ) → length t ≡ table_words �
 state-written t old mid new w h a b =
     runs old mid new (head_words (get_or t 0 0) (slice 3 195 t)) w 0 (head_size + 5) a (head-length (get_or t 0 0) (slice 3 195 t) (length-slice 3 195 t (omega arith))) b
 
--- ---- a run of words copied
--- what is left to copy, copied, gives what was asked
-unfoldable pub Copying : List ℕ → ℕ → ℕ → List ℕ → ℕ → List ℕ → ℕ → Type 0
-Copying from at n old o new i = sets new (o + i) (slice (at + i) (at + n) from) ≡ sets old o (slice at (at + n) from)
-
-module _ (from : List ℕ) (at n : ℕ) (old : List ℕ) (o : ℕ) where
-  pub copy_start : Copying from at n old o old 0
-  unfolding Copying
-  copy_start = rw (add-zero at, add-zero o)
-
-  pub copy-on : (new next : List ℕ) (i : ℕ) → Copying from at n old o new i → i < n → at + n ≤ length from → next ≡ set new (o + i) (get_or from (at + i) 0)
-      → Copying from at n old o next (i + 1)
-  unfolding Copying
-  copy-on new next i h l b e =
-      let x : o + (i + 1) ≡ suc (o + i) = omega arith in
-      let y : at + (i + 1) ≡ suc (at + i) = omega arith in
-      rw (e, x, y) (ap (sets new (o + i)) (sym (slice-cons (at + i) (at + n) from 0 (omega arith) b)) ∙ h)
-
-  pub copy_done : (new : List ℕ) (i : ℕ) → Copying from at n old o new i → i ≤ n → n ≤ i → new ≡ sets old o (slice at (at + n) from)
-  unfolding Copying
-  copy_done new i h a z =
-      let e : i ≡ n = omega arith in
-      ap (sets new (o + i)) (sym (ap (λ j. slice (at + j) (at + n) from) e ∙ slice_empty (at + n) from)) ∙ h
-
-  pub copy-kept : (new next : List ℕ) (j v : ℕ) → length new ≡ length old → next ≡ set new j v → length next ≡ length old
-  copy-kept new next j v h e = ap length e ∙ length-set new j v ∙ h
-
-pub ruleset copy-laws = (rules, copy_start, copy-on, copy_done, copy-kept)
-
-pub ruleset write-laws = (rules, head-written, part-written, state-written)
+pub ruleset write_laws = (rules, head-written, part-written, state-written)

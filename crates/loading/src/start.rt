@@ -7,6 +7,7 @@ ghost use Rattle.loading.specs.Start.{head_words, part_words};
 
 use layout::{EXPR, HEAD, LENGTH, STATE};
 use terms::splice::clear;
+use words::put_words;
 
 // Where the first actor's part counts the words of its expression, the zeros behind, and where the expression begins.
 const FIRST_LENGTH: usize = HEAD + LENGTH;
@@ -15,51 +16,34 @@ const FIRST_ZEROS: usize = FIRST_LENGTH + 1;
 
 const FIRST_EXPR: usize = HEAD + EXPR;
 
-// Writes one word.
-fn store(w: &mut [u32], at: usize, v: u32)
-    requires { at < length w.old }
-    ensures { w.new ≡ set w.old at v }
-{
-    w[at] = v;
-}
-
-// Writes the `n` words of `from` that stand at `at`, from `o` on.
-fn copy_words(from: &[u32], at: usize, n: usize, to: &mut [u32], o: usize)
-    requires { (at + n ≤ length from.now) × (o + n ≤ length to.old) }
-    ensures { to.new ≡ sets to.old o (slice at (at + n) from.now) }
-{
-    let mut i = 0;
-    while i < n {
-        store(to, o + i, from[at + i]);
-        i += 1;
-    }
-}
-
 // Writes a state up to the length of its first actor's expression: one actor, the dictionary of the table `t`, whose words stand in both
 // behind their number, and the counts of an actor that has made nothing.
+#[tactic(auto, using(crate::specs::Start::write_laws))]
 fn write_head(t: &[u32], state: &mut [u32])
     requires { (length t.now ≡ table_words) × (state_words ≤ length state.old) }
     ensures { state.new ≡ sets state.old 0 (head_words (get_or t.now 0 0) (slice 3 195 t.now)) }
 {
-    store(state, 0, 1);
-    store(state, 1, t[0]);
-    copy_words(t, 3, 192, state, 2);
+    state[0] = 1;
+    state[1] = t[0];
+    put_words(state, 2, &t[3..195]);
     clear(state, 194, FIRST_LENGTH);
 }
 
 // Writes the first `n` words of `s` as the first actor's expression, behind their number, and zeros to the end of the state: its heap
 // and inbox are empty, and there is no other actor.
+#[tactic(auto, using(crate::specs::Start::write_laws))]
 fn write_part(s: &[u32], n: usize, state: &mut [u32])
     requires { (n ≤ length s.now) × (n ≤ expr_size) × (state_words ≤ length state.old) }
     ensures { state.new ≡ sets state.old (head_size + 5) (part_words n (slice 0 n s.now)) }
 {
-    store(state, FIRST_LENGTH, n as u32);
+    state[FIRST_LENGTH] = n as u32;
     clear(state, FIRST_ZEROS, FIRST_EXPR);
-    copy_words(s, 0, n, state, FIRST_EXPR);
+    put_words(state, FIRST_EXPR, &s[..n]);
     clear(state, FIRST_EXPR + n, STATE);
 }
 
 // Writes the state of one actor: the dictionary of the table `t`, and the first `n` words of `s` as its expression.
+#[tactic(auto, using(crate::specs::Start::write_laws))]
 pub fn write_state(t: &[u32], s: &[u32], n: usize, state: &mut [u32])
     requires { (length t.now ≡ table_words) × (n ≤ length s.now) × (n ≤ expr_size) × (state_words ≤ length state.old) }
     ensures { state.new ≡ sets state.old 0 (head_words (get_or t.now 0 0) (slice 3 195 t.now) ++ part_words n (slice 0 n s.now)) }
