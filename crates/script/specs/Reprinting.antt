@@ -1,5 +1,5 @@
 -- The text made of words, read back: it tells whether the words are a table. Assumes nothing.
-use Rattle.std.specs.Prelude.{ℕ, ◌≤◌, ◌≡◌, Bool, false, List, ◌++◌, length, take}
+use Rattle.std.specs.Prelude.{ℕ, ◌≤◌, ◌≡◌, Bool, false, Option, Some, None, List, ◌++◌, length, take}
 use Rattle.std.proofs.Math.Path.{sym, ap, subst as transp}
 use Rattle.std.proofs.Common.{◌∙◌, arith, rules}
 use Rattle.std.proofs.lemmas.Bool.{false≢true}
@@ -18,8 +18,6 @@ use Rattle.layout_laws.specs.TableLaws.{table-length}
 use Rattle.promises.specs.Meaning.{read_call}
 use Rattle.layout_laws.specs.MeaningLaws.{read_done, read-leaves}
 use Rattle.words.specs.Runs.{Same}
-use Rattle.printer.specs.declared.Written.{Written}
-use Rattle.printer.specs.declared.Written.TheVariants.{Bytes, Bad}
 use Rattle.printer.specs.PrintContract.{Printed}
 use Rattle.script.specs.ReadContract.{Reads}
 use Rattle.script.specs.PrintContract.{Prints, TextIn, IsText, Front, no_room, no_table}
@@ -54,20 +52,20 @@ module _ (t front old new : List ℕ) (room : table_words ≤ length old) (r : T
   }
 
 -- ---- making it
-module _ (t old out new : List ℕ) (room : table_words ≤ length t) (r : Written) (p : Printed t out new r) where
-  pub no_text : r ≡ Bad → Prints t old (P.Refused 7) old
-  no_text e = no_table t old room (λ T i w. let q : Bad ≡ Bytes (length (text_of T)) = sym e ∙ (p.table T i w).0 in let z : ◌≡◌ {A = ℕ} 0 1 = cc in omega arith)
+module _ (t old out new : List ℕ) (room : table_words ≤ length t) (r : Option ℕ) (p : Printed t out new r) where
+  pub no_text : r ≡ None → Prints t old (P.Refused 7) old
+  no_text e = no_table t old room (λ T i w. let q : ◌≡◌ {A = Option ℕ} None (Some (length (text_of T))) = sym e ∙ (p.table T i w).0 in let z : ◌≡◌ {A = ℕ} 0 1 = cc in omega arith)
 
-  pub front-text : (n : ℕ) → r ≡ Bytes n → Front t (take n new)
+  pub front-text : (n : ℕ) → r ≡ Some n → Front t (take n new)
   front-text n e = record {
     room = room;
     text = λ T i w.
         let q = p.table T i w in
-        let z : length (text_of T) ≡ n = let y : Bytes (length (text_of T)) ≡ Bytes n = sym q.0 ∙ e in cc in
+        let z : length (text_of T) ≡ n = let y : ◌≡◌ {A = Option ℕ} (Some (length (text_of T))) (Some n) = sym q.0 ∙ e in cc in
         sym (ap (take n) q.1 ∙ take_at (text_of T) _ n z);
   }
 
-  pub front_fits : (n : ℕ) → r ≡ Bytes n → length out ≡ 4096 → n ≤ length new
+  pub front_fits : (n : ℕ) → r ≡ Some n → length out ≡ 4096 → n ≤ length new
   front_fits n e l = omega (arith, p.fits n e, p.kept)
 
   pub made-whole : length out ≡ 4096 → 4096 ≡ length new

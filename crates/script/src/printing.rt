@@ -8,7 +8,6 @@ ghost use Rattle.script.specs.PrintContract.{Prints, Given, IsText, Front};
 
 use atlite::{Printed, Tabled};
 use layout::TABLE;
-use printer::Written;
 
 // Puts the text `front` in front of `text`, if it fits.
 fn give(front: &[u8], text: &mut [u8]) -> Printed
@@ -57,8 +56,8 @@ fn print_table(table: &[u32], text: &mut [u8]) -> Printed
     let mut out = [0u8; 4096];
     let w = printer::print_words(table, &mut out);
     match w {
-        Written::Bytes(n) => print_made(table, &out, n, text),
-        Written::Bad => Printed::Refused(7),
+        Some(n) => print_made(table, &out, n, text),
+        None => Printed::Refused(7),
     }
 }
 
