@@ -1,6 +1,6 @@
 -- What listing promises, and why it holds. Assumes nothing.
 use Rattle.std.specs.Prelude.{◌≡◌, refl, List, [], ◌∷◌, ◌++◌, ℕ, zero, suc, ◌+◌, ◌≤◌, length, take, drop, set}
-use Rattle.std.proofs.Common.{ap, ◌∙◌, zero-add, arith, rules, length-take, length-take-le}
+use Rattle.std.proofs.Common.{ap, ◌∙◌, zero-add, arith, length-take}
 use Rattle.std.proofs.lemmas.List.Edits.{sets}
 use Rattle.atlite.specs.State.{State}
 use Rattle.atlite.specs.Valid.{IsState}
@@ -47,5 +47,3 @@ module _ (w old new : List ℕ) (r : ℕ) (a : Wrote old 0 (listed_in (take stat
     count = λ σ h e. a.next bound ∙ rw zero-add (ap length (listing-shown σ (state-fits σ h) (take state_words w) e));
     text = λ σ h e. a.is bound ∙ ap (sets old 0) (listing-shown σ (state-fits σ h) (take state_words w) e) ∙ sets-front old (listing σ);
   }
-
-pub ruleset laws = (rules, length-take-le, lists-whole)

@@ -1,12 +1,15 @@
 // The listing of messages: those of an inbox, a line each, and those that wait for a future, in its line.
-ghost use Rattle.std.specs.Prelude.{◌≡◌, ◌+◌, ◌*◌, ◌≤◌, ◌<◌, length, drop, get_or};
-ghost use Rattle.layout.specs.Numbers.{message_size, state_words};
-ghost use Rattle.showing.specs.Writer.{Wrote};
-ghost use Rattle.lister.specs.TextOfState.{message_in, aim_in, waiting_in, inbox_in};
+ghost use Rattle.std.specs.Prelude.{◌≡◌, true, ◌+◌, ◌*◌, ◌≤◌, ◌<◌, length, drop, get_or};
+ghost use Rattle.layout.specs.Numbers.{message_size};
+ghost use Rattle.showing.specs.Put.{Put};
 ghost use Rattle.showing.specs.ShowContract.{Showed};
+ghost use Rattle.lister.specs.TextOfState.{message_in, aim_in, waits, waiting_in, inbox_in};
 
-use layout::{DIGIT, MESSAGE, NUMBER_LIMIT, PAYLOAD, TAGGED_LIMIT};
-use showing::Place;
+use layout::{DIGIT, MESSAGE, NUMBER_LIMIT, PAYLOAD, REFERENCE, SEND, TAGGED_LIMIT};
+use showing::Writer;
+
+// The most messages that wait at an actor.
+const QUEUE: usize = 16;
 
 // The number in the reference at `at`, or zero.
 fn aim(t: &[u32], at: usize) -> u32
@@ -15,63 +18,62 @@ fn aim(t: &[u32], at: usize) -> u32
     if t.len() <= at {
         return 0;
     }
-    if t[at] / PAYLOAD == 3 {
+    if t[at] / PAYLOAD == REFERENCE / PAYLOAD {
         return t[at] % NUMBER_LIMIT;
     }
     0
 }
 
-// The message at `at`.
-fn show_message(t: &[u32], at: usize, out: &mut [u8], o: usize) -> usize
-    requires { (o ≤ 1099511627776) × (length t.now ≡ state_words) × (at < state_words) }
-    ensures { Wrote out.old o (message_in t.now (drop at t.now)) out.new result }
+// Whether a message to the entity `n` stands at `at`.
+fn waits(t: &[u32], at: usize, n: u32) -> bool
+    ensures is { result ≡ waits n (drop at t.now) }
+    ensures within { result ≡ true → at < length t.now }
 {
-    let h = t[at];
-    let p = showing::put_bytes(b"(message", out, o);
-    let r = showing::show_operands(
-        t,
-        at + 1,
-        (h % TAGGED_LIMIT) as usize,
-        (1 + h / TAGGED_LIMIT % DIGIT) as usize,
-        out,
-        p,
-        1,
-    );
-    showing::put(b')', out, r.o)
+    if t.len() <= at {
+        return false;
+    }
+    if t[at] / PAYLOAD != SEND / PAYLOAD {
+        return false;
+    }
+    aim(t, at + 1) == n
 }
 
-// The messages at `at` to the entity `n`, at most `left`, each behind a space. Behind the last one stand zeros or a slot, whose
-// words have another kind, so no count is needed.
-pub fn show_waiting(t: &[u32], at: usize, n: u32, out: &mut [u8], o: usize, left: usize) -> Place
-    requires { (o ≤ 1099511627776) × (length t.now ≡ state_words) × (left ≤ 16) }
-    ensures { Showed t.now (waiting_in t.now left n (drop at t.now)) out.old o out.new result.at result.o }
+// The message at `at`.
+fn show_message(t: &[u32], at: usize, text: &mut Writer<'_>)
+    requires { at < length t.now }
+    ensures { Put text.old (message_in t.now (drop at t.now)) text.new }
 {
-    if left == 0 {
-        return Place { at: at, o: o };
+    let h = t[at];
+    let operands = (1 + h / TAGGED_LIMIT % DIGIT) as usize;
+    text.put_bytes(b"(message");
+    text.show_operands(t, at + 1, h % TAGGED_LIMIT, operands, 1);
+    text.put(b')');
+}
+
+// The messages at `at` to the entity `n`, each behind a space. Behind the last one stand zeros or a slot, whose words have another
+// kind, so no count is needed. Returns where reading goes on.
+pub fn show_waiting(t: &[u32], at: usize, n: u32, text: &mut Writer<'_>) -> usize
+    ensures { Showed t.now (waiting_in t.now 16 n (drop at t.now)) text.old text.new result }
+{
+    let mut next = at;
+    for _ in 0..QUEUE {
+        if !waits(t, next, n) {
+            return next;
+        }
+        text.put(b' ');
+        show_message(t, next, text);
+        next += MESSAGE;
     }
-    if t.len() <= at {
-        return Place { at: at, o: o };
-    }
-    if t[at] / PAYLOAD != 14 {
-        return Place { at: at, o: o };
-    }
-    if aim(t, at + 1) != n {
-        return Place { at: at, o: o };
-    }
-    let a = showing::put(b' ', out, o);
-    let p = show_message(t, at, out, a);
-    show_waiting(t, at + MESSAGE, n, out, p, left - 1)
+    next
 }
 
 // The `n` messages of an inbox, each a line.
-pub fn show_inbox(t: &[u32], n: usize, at: usize, out: &mut [u8], o: usize) -> usize
-    requires { (o ≤ 1099511627776) × (length t.now ≡ state_words) × (at + message_size * n ≤ state_words) }
-    ensures { Wrote out.old o (inbox_in t.now n (drop at t.now)) out.new result }
+pub fn show_inbox(t: &[u32], n: usize, at: usize, text: &mut Writer<'_>)
+    requires { at + message_size * n ≤ length t.now }
+    ensures { Put text.old (inbox_in t.now n (drop at t.now)) text.new }
 {
-    if n == 0 {
-        return o;
+    for i in 0..n {
+        show_message(t, at + MESSAGE * i, text);
+        text.put(b'\n');
     }
-    let p = show_message(t, at, out, o);
-    let q = showing::put(b'\n', out, p);
-    show_inbox(t, n - 1, at + MESSAGE, out, q)
 }

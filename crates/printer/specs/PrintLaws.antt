@@ -1,5 +1,5 @@
 -- The four ways that printing a table returns. Assumes nothing.
-use Rattle.std.specs.Prelude.{◌≡◌, refl, Bool, true, false, List, [], ◌∷◌, ℕ, ◌-◌, ◌≤◌, ◌<◌, length, take, drop, get_or}
+use Rattle.std.specs.Prelude.{◌≡◌, refl, Option, Some, None, Bool, true, false, List, [], ◌∷◌, ℕ, ◌-◌, ◌≤◌, ◌<◌, length, take, drop, get_or}
 use Rattle.std.proofs.Common.{sym, ap, ◌∙◌, subst as transp, zero-add, arith, rules}
 use Rattle.std.proofs.lemmas.Bool.{false≢true}
 use Rattle.std.proofs.lemmas.List.Edits.{sets-eq}
@@ -7,7 +7,6 @@ use Rattle.atlite.specs.Table.{Table, IsTable, text_of}
 use Rattle.layout.specs.Numbers.{table_words}
 use Rattle.layout.specs.Tables.{encode_table}
 use Rattle.layout_laws.specs.TableFitting.{table_fits}
-use Rattle.printer.specs.declared.Written.TheVariants.{Bytes, Bad}
 use Rattle.showing.specs.Writer.{Wrote}
 use Rattle.printer.specs.Names.{names_hold, table-names}
 use Rattle.printer.specs.TextOfLines.{lines_in}
@@ -16,7 +15,7 @@ use Rattle.printer.specs.Tables.{table-count, table-text}
 
 -- ---- the ways to return
 -- giving up is no answer
-no_answer : (n : ℕ) → Bad ≡ Bytes n → n ≤ 4096
+no_answer : (n : ℕ) → None ≡ Some n → n ≤ 4096
 no_answer n e = let z : ◌≡◌ {A = ℕ} 0 1 = cc in omega arith
 
 behind-first : (w : List ℕ) → take (table_words - 1) (drop 1 w) ≡ drop 1 (take table_words w)
@@ -24,7 +23,7 @@ behind-first [] = refl
 behind-first (x ∷ w) = refl
 
 module _ (w old : List ℕ) (b : Bool) (s : b ≡ names_hold (take table_words w)) where
-  pub printed-none : b ≡ false → Printed w old old Bad
+  pub printed-none : b ≡ false → Printed w old old None
   printed-none z = record {
     table = λ T i e. absurd (false≢true (sym z ∙ s ∙ table-names (take table_words w) T i e));
     names = λ _. (refl, refl);
@@ -41,7 +40,7 @@ module _ (w old : List ℕ) (b : Bool) (s : b ≡ names_hold (take table_words w
     held : {A : Type 0} → names_hold (take table_words w) ≡ false → A
     held z = absurd (false≢true (sym z ∙ sym s ∙ y))
 
-    pub printed-many : 512 < get_or (take (table_words - 1) (drop 1 w)) 0 0 → Printed w old old Bad
+    pub printed-many : 512 < get_or (take (table_words - 1) (drop 1 w)) 0 0 → Printed w old old None
     printed-many h = record {
       table = λ T i e. absurd (omega (arith, table-count (take (table_words - 1) (drop 1 w)) T i (published T e), (table_fits T i).line_count));
       names = held;
@@ -59,8 +58,8 @@ module _ (w old : List ℕ) (b : Bool) (s : b ≡ names_hold (take table_words w
         stop : (T : Table) → IsTable T → take table_words w ≡ encode_table T → o ≡ length (text_of T)
         stop T i e = (text-is T i e).next (omega (arith, i.text.1)) ∙ zero-add (length (text_of T))
 
-        module _ (n : ℕ) (l : n ≡ length old) (k : length old ≡ 4096) (same : length new ≡ length old) where
-          pub printed-long : n < o → Printed w old new Bad
+        module _ (k : length old ≡ 4096) (same : length new ≡ length old) where
+          pub printed-long : 4096 < o → Printed w old new None
           printed-long h = record {
             table = λ T i e. absurd (omega (arith, stop T i e, i.text.1));
             names = held;
@@ -68,10 +67,10 @@ module _ (w old : List ℕ) (b : Bool) (s : b ≡ names_hold (take table_words w
             kept = same;
           }
 
-          pub printed-whole : o ≤ n → Printed w old new (Bytes o)
+          pub printed-whole : o ≤ 4096 → Printed w old new (Some o)
           printed-whole h = record {
             table = λ T i e. (
-              ap Bytes (stop T i e),
+              ap {B = Option ℕ} Some (stop T i e),
               (text-is T i e).is (omega (arith, i.text.1)) ∙ sets-eq (text_of T) old 0 (omega (arith, i.text.1)) ∙ rw zero-add,
             );
             names = held;

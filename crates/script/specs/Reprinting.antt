@@ -1,5 +1,5 @@
 -- The text made of words, read back: it tells whether the words are a table. Assumes nothing.
-use Rattle.std.specs.Prelude.{ℕ, ◌≤◌, ◌≡◌, Bool, true, false, Ok, Err, List, ◌++◌, length, take, nat_eq}
+use Rattle.std.specs.Prelude.{ℕ, ◌≤◌, ◌≡◌, Bool, true, false, Option, Some, None, Ok, Err, List, ◌++◌, length, take, nat_eq}
 use Rattle.std.proofs.Math.Path.{sym, ap, subst as transp}
 use Rattle.std.proofs.Common.{refl, ◌∙◌, arith, rules, take_all}
 use Rattle.std.specs.Cmp.Lexicographic.{pointwise, same_text, other_text}
@@ -17,8 +17,6 @@ use Rattle.layout.specs.Tables.{encode_table}
 use Rattle.layout_laws.specs.TableLaws.{table-length}
 use Rattle.promises.specs.Meaning.{read_call}
 use Rattle.layout_laws.specs.MeaningLaws.{read_done, read-leaves}
-use Rattle.printer.specs.declared.Written.{Written}
-use Rattle.printer.specs.declared.Written.TheVariants.{Bytes, Bad}
 use Rattle.printer.specs.PrintContract.{Printed}
 use Rattle.script.specs.ReadContract.{Reads}
 use Rattle.script.specs.PrintContract.{Prints, TextIn, IsText, Front, no_room, no_table}
@@ -61,20 +59,20 @@ module _ (t front old new : List ℕ) (room : table_words ≤ length old) where
   }
 
 -- ---- making it
-module _ (t old out new : List ℕ) (room : table_words ≤ length t) (r : Written) (p : Printed t out new r) where
-  pub no_text : r ≡ Bad → Prints t old (Err C.Malformed) old
-  no_text e = no_table t old room (λ T i w. let q : Bad ≡ Bytes (length (text_of T)) = sym e ∙ (p.table T i w).0 in let z : ◌≡◌ {A = ℕ} 0 1 = cc in omega arith)
+module _ (t old out new : List ℕ) (room : table_words ≤ length t) (r : Option ℕ) (p : Printed t out new r) where
+  pub no_text : r ≡ None → Prints t old (Err C.Malformed) old
+  no_text e = no_table t old room (λ T i w. let q : ◌≡◌ {A = Option ℕ} None (Some (length (text_of T))) = sym e ∙ (p.table T i w).0 in let z : ◌≡◌ {A = ℕ} 0 1 = cc in omega arith)
 
-  pub front-text : (n : ℕ) → r ≡ Bytes n → Front t (take n new)
+  pub front-text : (n : ℕ) → r ≡ Some n → Front t (take n new)
   front-text n e = record {
     room = room;
     text = λ T i w.
         let q = p.table T i w in
-        let z : length (text_of T) ≡ n = let y : Bytes (length (text_of T)) ≡ Bytes n = sym q.0 ∙ e in cc in
+        let z : length (text_of T) ≡ n = let y : ◌≡◌ {A = Option ℕ} (Some (length (text_of T))) (Some n) = sym q.0 ∙ e in cc in
         sym (ap (take n) q.1 ∙ take_at (text_of T) _ n z);
   }
 
-  pub front_fits : (n : ℕ) → r ≡ Bytes n → length out ≡ 4096 → n ≤ length new
+  pub front_fits : (n : ℕ) → r ≡ Some n → length out ≡ 4096 → n ≤ length new
   front_fits n e l = omega (arith, p.fits n e, p.kept)
 
 pub ruleset laws = (rules, no_text, front-text, front_fits, no_room)

@@ -9,7 +9,6 @@ ghost use Rattle.script.specs.PrintContract.{Prints, Given, IsText, Front};
 use crate::TEXT;
 use atlite::Cause;
 use layout::TABLE;
-use printer::Written;
 
 // Puts the text `front` in front of `text`, if it fits.
 fn give(front: &[u8], text: &mut [u8]) -> Result<usize, Cause>
@@ -58,8 +57,8 @@ fn print_table(table: &[u32], text: &mut [u8]) -> Result<usize, Cause>
     }
     let mut out = [0u8; TEXT];
     match printer::print_words(table, &mut out) {
-        Written::Bytes(n) => print_made(table, &out[..n], text),
-        Written::Bad => Err(Cause::Malformed),
+        Some(n) => print_made(table, &out[..n], text),
+        None => Err(Cause::Malformed),
     }
 }
 

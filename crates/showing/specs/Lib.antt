@@ -1,5 +1,6 @@
 -- what the code is proved against
 pub mod Writer
+pub mod Put
 pub mod TextOfWords
 pub mod ShowContract
 -- the laws of its functions

@@ -1,6 +1,6 @@
 -- The words that a dictionary spells are its script's. By induction on a word's letters, four of which stand in one machine word,
 -- and on the dictionary, three machine words for each of its own. Assumes nothing.
-use Rattle.std.specs.Prelude.{◌≡◌, Bool, true, false, ltb, length, if◌then◌else◌}
+use Rattle.std.specs.Prelude.{◌≡◌, Bool, true, false, ltb, length}
 use Rattle.std.proofs.Math.Path.{refl, ap}
 use Rattle.std.proofs.Common.{sym, ◌∙◌, subst as transp}
 use mathlib.Core.List.{List, [], ◌∷◌, ◌++◌, append_assoc, append-nil}

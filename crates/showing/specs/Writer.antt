@@ -1,10 +1,9 @@
 -- What a writer leaves in a text of any length. A writer never gives up: where the text has no room it counts on and stores
 -- nothing, so two writes compose with no test between them and the same code measures a text and writes it. Positions stop at
 -- 2^40, which no listing comes near; up to there they count exactly. Assumes nothing.
-use Rattle.std.specs.Prelude.{◌≡◌, refl, List, [], ◌∷◌, ◌++◌, ℕ, ◌+◌, ◌≤◌, ◌<◌, length, set}
-use Rattle.std.proofs.Common.{sym, ◌∙◌, arith, length-append}
+use Rattle.std.specs.Prelude.{◌≡◌, refl, List, [], ◌++◌, ℕ, ◌+◌, ◌≤◌, length}
+use Rattle.std.proofs.Common.{◌∙◌, arith, length-append}
 use Rattle.std.proofs.lemmas.List.Edits.{sets}
-use Rattle.std.proofs.Math.Seq.{set_out}
 use Rattle.layout_laws.specs.Writes.{sets-append}
 
 -- where positions stop
@@ -21,15 +20,6 @@ pub record Wrote (old : List ℕ) (o : ℕ) (s : List ℕ) (new : List ℕ) (p :
 module _ (old : List ℕ) (o : ℕ) where
   pub wrote_none : o ≤ most → Wrote old o [] old o
   wrote_none h = record { is = λ e. refl; next = λ e. omega arith; small = h }
-
-  pub wrote_one : (b : ℕ) → o < most → o < length old → Wrote old o (b ∷ []) (set old o b) (o + 1)
-  wrote_one b h l = record { is = λ e. refl; next = λ e. refl; small = omega arith }
-
-  pub wrote-outside : (b : ℕ) → o < most → length old ≤ o → Wrote old o (b ∷ []) old (o + 1)
-  wrote-outside b h l = record { is = λ e. sym (set_out old o b l); next = λ e. refl; small = omega arith }
-
-  pub wrote-past : (b : ℕ) → most ≤ o → Wrote old o (b ∷ []) old most
-  wrote-past b h = record { is = λ e. absurd (omega arith); next = λ e. absurd (omega arith); small = omega arith }
 
   pub wrote-two : (s t mid new : List ℕ) (p q : ℕ) → Wrote old o s mid p → Wrote mid p t new q → Wrote old o (s ++ t) new q
   wrote-two s t mid new p q a b =

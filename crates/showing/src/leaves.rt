@@ -1,52 +1,52 @@
 // The text of a word with no operands: a value or a variable.
-ghost use Rattle.std.specs.Prelude.{◌≤◌, ◌<◌, length};
-ghost use Rattle.layout.specs.Numbers.{owner_limit, head_size};
-ghost use Rattle.showing.specs.Writer.{Wrote};
+ghost use Rattle.std.specs.Prelude.{◌<◌};
+ghost use Rattle.layout.specs.Numbers.{owner_limit};
+ghost use Rattle.showing.specs.Put.{Put};
 ghost use Rattle.showing.specs.TextOfWords.{series_in, owner_in, ref_in, leaf_in};
 
-use crate::text;
+use crate::Writer;
 use layout::{NAME_LIMIT, NUMBER_LIMIT, OWNER_LIMIT, OWNER_UNIT, PAYLOAD};
 
-// A series, between two numbers.
-pub fn put_series(s: u32, out: &mut [u8], o: usize) -> usize
-    requires { o ≤ 1099511627776 }
-    ensures { Wrote out.old o (series_in s) out.new result }
-{
-    if s == 0 {
-        return text::put_bytes(b" m ", out, o);
+impl Writer<'_> {
+    // A series, between two numbers.
+    pub fn put_series(&mut self, s: u32)
+        ensures { Put self.old (series_in s) self.new }
+    {
+        if s == 0 {
+            self.put_bytes(b" m ");
+        } else {
+            self.put_bytes(b" c ");
+        }
     }
-    text::put_bytes(b" c ", out, o)
-}
 
-// The actor of a reference.
-fn put_owner(a: u32, out: &mut [u8], o: usize) -> usize
-    requires { (o ≤ 1099511627776) × (a < owner_limit) }
-    ensures { Wrote out.old o (owner_in a) out.new result }
-{
-    let p = text::put_bytes(b"(ref ", out, o);
-    text::put_number(a, out, p)
-}
+    // The actor of a reference.
+    fn put_owner(&mut self, a: u32)
+        requires { a < owner_limit }
+        ensures { Put self.old (owner_in a) self.new }
+    {
+        self.put_bytes(b"(ref ");
+        self.put_number(a);
+    }
 
-// A reference: actor, series and number.
-fn put_ref(h: u32, out: &mut [u8], o: usize) -> usize
-    requires { o ≤ 1099511627776 }
-    ensures { Wrote out.old o (ref_in h) out.new result }
-{
-    let a = put_owner(h / OWNER_UNIT % OWNER_LIMIT, out, o);
-    let b = put_series(h / NUMBER_LIMIT % 2, out, a);
-    let c = text::put_number(h % NUMBER_LIMIT, out, b);
-    text::put(b')', out, c)
-}
+    // A reference: actor, series and number.
+    fn put_ref(&mut self, h: u32)
+        ensures { Put self.old (ref_in h) self.new }
+    {
+        self.put_owner(h / OWNER_UNIT % OWNER_LIMIT);
+        self.put_series(h / NUMBER_LIMIT % 2);
+        self.put_number(h % NUMBER_LIMIT);
+        self.put(b')');
+    }
 
-// A word of a kind below 7: a value or a variable.
-pub fn put_leaf(t: &[u32], h: u32, out: &mut [u8], o: usize) -> usize
-    requires { (o ≤ 1099511627776) × (head_size ≤ length t.now) }
-    ensures { Wrote out.old o (leaf_in t.now h) out.new result }
-{
-    match h / PAYLOAD {
-        1 => text::put_keyword(1, out, o),
-        2 => text::put_number(h % PAYLOAD, out, o),
-        3 => put_ref(h, out, o),
-        _ => text::put_word(t, (h % NAME_LIMIT) as usize, out, o),
+    // A word of a kind below 7: a value or a variable.
+    pub fn put_leaf(&mut self, t: &[u32], h: u32)
+        ensures { Put self.old (leaf_in t.now h) self.new }
+    {
+        match h / PAYLOAD {
+            1 => self.put_keyword(1),
+            2 => self.put_number(h % PAYLOAD),
+            3 => self.put_ref(h),
+            _ => self.put_word(t, h % NAME_LIMIT),
+        }
     }
 }
