@@ -3,7 +3,7 @@ ghost use Rattle.std.specs.Prelude.{◌≡◌, ◌+◌, ◌*◌, ◌≤◌, ◌<
 ghost use Rattle.atlite.specs.Term.{top};
 ghost use Rattle.layout.specs.Numbers.{digit_limit};
 ghost use Rattle.words.specs.Wide.{wide, wide_limit, pair, wide_names};
-ghost use Rattle.lexemes.specs.DescentContract.{Place, Closed};
+ghost use Rattle.lexemes.specs.DescentContract.{Place, Closed, stepped};
 
 use words::wide;
 
@@ -12,38 +12,40 @@ pub const LIMIT: usize = wide::LIMIT as usize;
 
 const DIGIT: usize = wide::DIGIT as usize;
 
-// The next positions in the text and in the words, or a refusal.
-#[derive(Drop)]
-pub enum Step {
-    Done(usize, usize),
-    Bad,
+// Where reading goes on in the text, and writing in the words.
+#[derive(Clone, Copy)]
+pub struct Step {
+    pub at: usize,
+    pub out: usize,
 }
 
-// A list's end in the text and in the words, and its count, or a refusal.
-#[derive(Drop)]
-pub enum Listed {
-    Items(usize, usize, usize),
-    NoItems,
+// The same behind a list, and the list's count.
+#[derive(Clone, Copy)]
+pub struct Listed {
+    pub at: usize,
+    pub out: usize,
+    pub count: usize,
 }
 
 // Stores `w` at `o`, behind which the words go on at `p`.
-pub fn put(out: &mut [u64], o: usize, w: u64, i: usize, p: usize) -> Step
+pub fn put(out: &mut [u64], o: usize, w: u64, i: usize, p: usize) -> Option<Step>
     requires { o < length out.old }
-    ensures { (result ≡ Step.Done i p) × (out.new ≡ set out.old o w) }
+    ensures { (result ≡ stepped i p) × (out.new ≡ set out.old o w) }
 {
     out[o] = w;
-    Step::Done(i, p)
+    Some(Step { at: i, out: p })
 }
 
 // The closing bracket of a form whose head word `w` has its place at `o`.
-pub fn close(text: &[u8], at: usize, out: &mut [u64], o: usize, w: u64, p: usize) -> Step
+#[tactic(auto, using(crate::specs::DescentLaws::closing))]
+pub fn close(text: &[u8], at: usize, out: &mut [u64], o: usize, w: u64, p: usize) -> Option<Step>
     requires { Place text.now at p × (length out.old ≡ 4096) × (o < 4096) }
     ensures { Closed text.now at out.old o w p out.new result }
 {
     if scan::starts(text, at, b")") {
         return put(out, o, w, at + 1, p);
     }
-    Step::Bad
+    None
 }
 
 // Head words: a kind with one name, with two numbers.

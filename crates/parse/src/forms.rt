@@ -11,11 +11,12 @@ mod literals;
 
 use crate::forms::literals::literal;
 use lexemes::atoms::atom;
-use lexemes::names::{Name, spaced_word};
+use lexemes::names::spaced_word;
 use lexemes::scratch::{Listed, Step, close, head, head2, put};
 
 // An expression.
 #[cycle(expressions)]
+#[tactic(auto, using(crate::specs::Cycle::expr_laws))]
 pub fn expr(
     text: &[u8],
     at: usize,
@@ -24,7 +25,7 @@ pub fn expr(
     count: usize,
     out: &mut [u64],
     o: usize,
-) -> Step
+) -> Option<Step>
     requires { Ready text.now low.now high.now count × Place text.now at o × (length out.old ≡ 4096) }
     ensures { Reads wide_src (exprs text.now) text.now at o out.old out.new result }
 {
@@ -36,6 +37,7 @@ pub fn expr(
 
 // An expression behind a space.
 #[cycle(expressions)]
+#[tactic(auto, using(crate::specs::Cycle::spaced_laws))]
 pub fn spaced(
     text: &[u8],
     at: usize,
@@ -44,18 +46,19 @@ pub fn spaced(
     count: usize,
     out: &mut [u64],
     o: usize,
-) -> Step
+) -> Option<Step>
     requires { Ready text.now low.now high.now count × Place text.now at o × (length out.old ≡ 4096) }
     ensures { Reads wide_src (spaceds text.now) text.now at o out.old out.new result }
 {
     if scan::starts(text, at, b" ") {
         return expr(text, at + 1, low, high, count, out, o);
     }
-    Step::Bad
+    None
 }
 
 // What stands behind an opening bracket, by its operator.
 #[cycle(expressions)]
+#[tactic(auto, using(crate::specs::Cycle::bracket_laws))]
 fn bracket(
     text: &[u8],
     at: usize,
@@ -64,7 +67,7 @@ fn bracket(
     count: usize,
     out: &mut [u64],
     o: usize,
-) -> Step
+) -> Option<Step>
     requires { Ready text.now low.now high.now count × Place text.now at (o + 1) × (length out.old ≡ 4096) }
     ensures { Reads wide_src (brackets text.now) text.now at o out.old out.new result }
 {
@@ -75,6 +78,7 @@ fn bracket(
 
 // The form of the operator of kind `k`.
 #[cycle(expressions)]
+#[tactic(auto, using(crate::specs::Cycle::form_laws))]
 fn form(
     text: &[u8],
     at: usize,
@@ -84,7 +88,7 @@ fn form(
     out: &mut [u64],
     o: usize,
     k: u8,
-) -> Step
+) -> Option<Step>
     requires { Ready text.now low.now high.now count × Place text.now at (o + 1) × (length out.old ≡ 4096) }
     ensures { Reads wide_src (forms k text.now) text.now at o out.old out.new result }
 {
@@ -109,12 +113,13 @@ fn form(
         66 => parts(text, at, low, high, count, out, o, o + 1, k as u64, 2),
         67 => between(text, at, low, high, count, out, o, k, 1),
         68 => parts(text, at, low, high, count, out, o, o + 1, k as u64, 2),
-        _ => Step::Bad,
+        _ => None,
     }
 }
 
 // `n` expressions and the closing bracket, with the expressions' words at `p` and the place of the head word `w` at `o`.
 #[cycle(expressions)]
+#[tactic(auto, using(crate::specs::Cycle::parts_laws))]
 fn parts(
     text: &[u8],
     at: usize,
@@ -126,22 +131,20 @@ fn parts(
     p: usize,
     w: u64,
     n: u32,
-) -> Step
+) -> Option<Step>
     requires { Ready text.now low.now high.now count × Place text.now at p × (length out.old ≡ 4096) × (o < 4096) }
     ensures { Follow w n text.now at p out.old o out.new result }
 {
     if n == 0 {
         return close(text, at, out, o, w, p);
     }
-    let a = spaced(text, at, low, high, count, out, p);
-    match a {
-        Step::Done(i, q) => parts(text, i, low, high, count, out, o, q, w, n - 1),
-        Step::Bad => Step::Bad,
-    }
+    let e = spaced(text, at, low, high, count, out, p)?;
+    parts(text, e.at, low, high, count, out, o, e.out, w, n - 1)
 }
 
 // The forms behind their operator, with the head word's place at `o`. One expression:
 #[cycle(expressions)]
+#[tactic(auto, using(crate::specs::Cycle::one_laws))]
 pub fn one(
     text: &[u8],
     at: usize,
@@ -151,7 +154,7 @@ pub fn one(
     out: &mut [u64],
     o: usize,
     w: u64,
-) -> Step
+) -> Option<Step>
     requires { Ready text.now low.now high.now count × Place text.now at (o + 1) × (length out.old ≡ 4096) }
     ensures { Reads (one_words w) (ones text.now) text.now at o out.old out.new result }
 {
@@ -160,6 +163,7 @@ pub fn one(
 
 // An expression, a word and `n` expressions.
 #[cycle(expressions)]
+#[tactic(auto, using(crate::specs::Cycle::between_laws))]
 fn between(
     text: &[u8],
     at: usize,
@@ -170,25 +174,29 @@ fn between(
     o: usize,
     k: u8,
     n: u32,
-) -> Step
+) -> Option<Step>
     requires { Ready text.now low.now high.now count × Place text.now at (o + 1) × (length out.old ≡ 4096) }
     ensures { Reads (mid_words k n) (mids n text.now) text.now at o out.old out.new result }
 {
-    let a = spaced(text, at, low, high, count, out, o + 1);
-    match a {
-        Step::Done(i, p) => {
-            let x = spaced_word(text, i, low, high, count);
-            match x {
-                Name::Word(y, j) => parts(text, j, low, high, count, out, o, p, head(k, y), n),
-                Name::NoWord => Step::Bad,
-            }
-        }
-        Step::Bad => Step::Bad,
-    }
+    let e = spaced(text, at, low, high, count, out, o + 1)?;
+    let x = spaced_word(text, e.at, low, high, count)?;
+    parts(
+        text,
+        x.end,
+        low,
+        high,
+        count,
+        out,
+        o,
+        e.out,
+        head(k, x.number),
+        n,
+    )
 }
 
 // A word, and two expressions in its scope.
 #[cycle(expressions)]
+#[tactic(auto, using(crate::specs::Cycle::let_in_laws))]
 fn let_in(
     text: &[u8],
     at: usize,
@@ -197,19 +205,28 @@ fn let_in(
     count: usize,
     out: &mut [u64],
     o: usize,
-) -> Step
+) -> Option<Step>
     requires { Ready text.now low.now high.now count × Place text.now at (o + 1) × (length out.old ≡ 4096) }
     ensures { Reads wide_src (forms 11 text.now) text.now at o out.old out.new result }
 {
-    let x = spaced_word(text, at, low, high, count);
-    match x {
-        Name::Word(y, i) => parts(text, i, low, high, count, out, o, o + 1, head(11, y), 2),
-        Name::NoWord => Step::Bad,
-    }
+    let x = spaced_word(text, at, low, high, count)?;
+    parts(
+        text,
+        x.end,
+        low,
+        high,
+        count,
+        out,
+        o,
+        o + 1,
+        head(11, x.number),
+        2,
+    )
 }
 
 // Two words, and an expression in their scope.
 #[cycle(expressions)]
+#[tactic(auto, using(crate::specs::Cycle::future_laws))]
 fn future(
     text: &[u8],
     at: usize,
@@ -218,25 +235,27 @@ fn future(
     count: usize,
     out: &mut [u64],
     o: usize,
-) -> Step
+) -> Option<Step>
     requires { Ready text.now low.now high.now count × Place text.now at (o + 1) × (length out.old ≡ 4096) }
     ensures { Reads wide_src (forms 12 text.now) text.now at o out.old out.new result }
 {
-    let x = spaced_word(text, at, low, high, count);
-    match x {
-        Name::Word(y, i) => {
-            let v = spaced_word(text, i, low, high, count);
-            match v {
-                Name::Word(z, j) => one(text, j, low, high, count, out, o, head2(12, y, z)),
-                Name::NoWord => Step::Bad,
-            }
-        }
-        Name::NoWord => Step::Bad,
-    }
+    let x = spaced_word(text, at, low, high, count)?;
+    let y = spaced_word(text, x.end, low, high, count)?;
+    one(
+        text,
+        y.end,
+        low,
+        high,
+        count,
+        out,
+        o,
+        head2(12, x.number, y.number),
+    )
 }
 
 // A word, and an expression in its scope.
 #[cycle(expressions)]
+#[tactic(auto, using(crate::specs::Cycle::func_laws))]
 fn func(
     text: &[u8],
     at: usize,
@@ -245,19 +264,17 @@ fn func(
     count: usize,
     out: &mut [u64],
     o: usize,
-) -> Step
+) -> Option<Step>
     requires { Ready text.now low.now high.now count × Place text.now at (o + 1) × (length out.old ≡ 4096) }
     ensures { Reads wide_src (forms 65 text.now) text.now at o out.old out.new result }
 {
-    let x = spaced_word(text, at, low, high, count);
-    match x {
-        Name::Word(y, i) => one(text, i, low, high, count, out, o, head(65, y)),
-        Name::NoWord => Step::Bad,
-    }
+    let x = spaced_word(text, at, low, high, count)?;
+    one(text, x.end, low, high, count, out, o, head(65, x.number))
 }
 
 // Of a call, a send or an ask: who is asked, the name of the message, and its arguments.
 #[cycle(expressions)]
+#[tactic(auto, using(crate::specs::Cycle::message_laws))]
 fn message(
     text: &[u8],
     at: usize,
@@ -267,25 +284,18 @@ fn message(
     out: &mut [u64],
     o: usize,
     k: u8,
-) -> Step
+) -> Option<Step>
     requires { Ready text.now low.now high.now count × Place text.now at (o + 1) × (length out.old ≡ 4096) }
     ensures { Reads (send_words k) (sends text.now) text.now at o out.old out.new result }
 {
-    let a = spaced(text, at, low, high, count, out, o + 1);
-    match a {
-        Step::Done(i, p) => {
-            let x = spaced_word(text, i, low, high, count);
-            match x {
-                Name::Word(m, j) => arguments(text, j, low, high, count, out, o, p, k, m),
-                Name::NoWord => Step::Bad,
-            }
-        }
-        Step::Bad => Step::Bad,
-    }
+    let e = spaced(text, at, low, high, count, out, o + 1)?;
+    let m = spaced_word(text, e.at, low, high, count)?;
+    arguments(text, m.end, low, high, count, out, o, e.out, k, m.number)
 }
 
 // The arguments of the message `m`, with their words at `p` and the head word's place at `o`.
 #[cycle(expressions)]
+#[tactic(auto, using(crate::specs::Cycle::arguments_laws))]
 fn arguments(
     text: &[u8],
     at: usize,
@@ -297,19 +307,17 @@ fn arguments(
     p: usize,
     k: u8,
     m: usize,
-) -> Step
+) -> Option<Step>
     requires { Ready text.now low.now high.now count × Place text.now at p × (length out.old ≡ 4096) × (o < 4096) × (m < 4096) }
     ensures { Argued k m text.now at p out.old o out.new result }
 {
-    let b = args(text, at, low, high, count, out, p, 0);
-    match b {
-        Listed::Items(l, q, c) => put(out, o, head2(k, m, c), l, q),
-        Listed::NoItems => Step::Bad,
-    }
+    let a = args(text, at, low, high, count, out, p, 0)?;
+    put(out, o, head2(k, m, a.count), a.at, a.out)
 }
 
 // Arguments to the closing bracket, with `b` before them and at most three in all.
 #[cycle(expressions)]
+#[tactic(auto, using(crate::specs::Cycle::args_laws))]
 fn args(
     text: &[u8],
     at: usize,
@@ -319,19 +327,20 @@ fn args(
     out: &mut [u64],
     o: usize,
     b: usize,
-) -> Listed
+) -> Option<Listed>
     requires { Ready text.now low.now high.now count × Place text.now at o × (length out.old ≡ 4096) × (b ≤ 3) }
     ensures { Lists wide_srcs count_srcs 3 b (args_from b text.now) text.now at o out.old out.new result }
 {
     if scan::starts(text, at, b")") {
-        return Listed::Items(at + 1, o, b);
+        return Some(Listed {
+            at: at + 1,
+            out: o,
+            count: b,
+        });
     }
     if b == 3 {
-        return Listed::NoItems;
+        return None;
     }
-    let a = spaced(text, at, low, high, count, out, o);
-    match a {
-        Step::Done(i, p) => args(text, i, low, high, count, out, p, b + 1),
-        Step::Bad => Listed::NoItems,
-    }
+    let e = spaced(text, at, low, high, count, out, o)?;
+    args(text, e.at, low, high, count, out, e.out, b + 1)
 }

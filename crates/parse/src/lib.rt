@@ -9,21 +9,21 @@ ghost use Rattle.parse.specs.TextLaws.{Parses};
 mod forms;
 mod lines;
 
-// What parsing answers: the words and lines of a script, or that its text is of no script.
-#[derive(Drop)]
-pub enum Parsed {
-    Done { words: usize, lines: usize },
-    Bad,
+// How many words and lines a script has.
+#[derive(Clone, Copy)]
+pub struct Parsed {
+    pub words: usize,
+    pub lines: usize,
 }
 
-// A text with its dictionary, as `scan::scan` leaves it, into scratch words.
+// A text with its dictionary, as `scan::scan` leaves it, into scratch words; none where it is the text of no script.
 pub fn parse(
     text: &[u8],
     low: &[u64; 2048],
     high: &[u32; 2048],
     count: usize,
     out: &mut [u64; 4096],
-) -> Parsed
+) -> Option<Parsed>
     requires { Holds (dictionary text.now) low.now high.now count × (count ≤ 2048) × (length text.now ≤ 4096) }
     ensures { Parses text.now out.new result }
 {

@@ -8,21 +8,23 @@ ghost use Rattle.lexemes.specs.DescentContract.{Place, Reads};
 
 use crate::Parsed;
 use crate::forms::{expr, one};
-use lexemes::names::{Name, word_at};
+use lexemes::names::word_at;
 use lexemes::scratch::{Step, head};
 
 // The end of a line.
-fn newline(text: &[u8], at: usize, p: usize) -> Step
+#[tactic(auto, using(crate::specs::Lines::laws))]
+fn newline(text: &[u8], at: usize, p: usize) -> Option<Step>
     requires { at ≤ length text.now }
     ensures { LineEnd text.now at p result }
 {
     if scan::starts(text, at, b"\n") {
-        return Step::Done(at + 1, p);
+        return Some(Step { at: at + 1, out: p });
     }
-    Step::Bad
+    None
 }
 
 // A definition behind its opening.
+#[tactic(auto, using(crate::specs::Lines::laws))]
 fn definition(
     text: &[u8],
     at: usize,
@@ -31,24 +33,17 @@ fn definition(
     count: usize,
     out: &mut [u64],
     o: usize,
-) -> Step
+) -> Option<Step>
     requires { Ready text.now low.now high.now count × Place text.now at (o + 1) × (length out.old ≡ 4096) }
     ensures { Reads wide_line (definitions text.now) text.now at o out.old out.new result }
 {
-    let x = word_at(text, at, low, high, count);
-    match x {
-        Name::Word(y, i) => {
-            let a = one(text, i, low, high, count, out, o, head(130, y));
-            match a {
-                Step::Done(j, p) => newline(text, j, p),
-                Step::Bad => Step::Bad,
-            }
-        }
-        Name::NoWord => Step::Bad,
-    }
+    let x = word_at(text, at, low, high, count)?;
+    let e = one(text, x.end, low, high, count, out, o, head(130, x.number))?;
+    newline(text, e.at, e.out)
 }
 
 // An expression as a line.
+#[tactic(auto, using(crate::specs::Lines::laws))]
 fn sentence(
     text: &[u8],
     at: usize,
@@ -57,18 +52,16 @@ fn sentence(
     count: usize,
     out: &mut [u64],
     o: usize,
-) -> Step
+) -> Option<Step>
     requires { Ready text.now low.now high.now count × Place text.now at o × (length out.old ≡ 4096) }
     ensures { Reads wide_line (sentences text.now) text.now at o out.old out.new result }
 {
-    let a = expr(text, at, low, high, count, out, o);
-    match a {
-        Step::Done(i, p) => newline(text, i, p),
-        Step::Bad => Step::Bad,
-    }
+    let e = expr(text, at, low, high, count, out, o)?;
+    newline(text, e.at, e.out)
 }
 
 // A line.
+#[tactic(auto, using(crate::specs::Lines::laws))]
 fn line(
     text: &[u8],
     at: usize,
@@ -77,7 +70,7 @@ fn line(
     count: usize,
     out: &mut [u64],
     o: usize,
-) -> Step
+) -> Option<Step>
     requires { Ready text.now low.now high.now count × Place text.now at o × (length out.old ≡ 4096) }
     ensures { Reads wide_line (line_of text.now) text.now at o out.old out.new result }
 {
@@ -88,18 +81,23 @@ fn line(
 }
 
 // Whether the line at `at` is an expression, on which a script may end.
+#[tactic(auto, using(crate::specs::TextLaws::laws))]
 fn ends(text: &[u8], at: usize) -> bool
     requires { at ≤ length text.now }
     ensures { Closing text.now at result }
 {
-    if scan::starts(text, at, b"(def ") {
-        return false;
-    }
-    true
+    !scan::starts(text, at, b"(def ")
 }
 
 // The lines of a text.
-pub fn lines(text: &[u8], low: &[u64], high: &[u32], count: usize, out: &mut [u64]) -> Parsed
+#[tactic(auto, using(crate::specs::TextLaws::laws))]
+pub fn lines(
+    text: &[u8],
+    low: &[u64],
+    high: &[u32],
+    count: usize,
+    out: &mut [u64],
+) -> Option<Parsed>
     requires { Ready text.now low.now high.now count × (length out.old ≡ 4096) }
     ensures { Parses text.now out.new result }
 {
@@ -108,21 +106,14 @@ pub fn lines(text: &[u8], low: &[u64], high: &[u32], count: usize, out: &mut [u6
     let mut n = 0;
     let mut last = false;
     while at < text.len() {
-        let a = line(text, at, low, high, count, out, o);
-        match a {
-            Step::Done(i, p) => {
-                last = ends(text, at);
-                at = i;
-                o = p;
-                n += 1;
-            }
-            Step::Bad => {
-                return Parsed::Bad;
-            }
-        }
+        let l = line(text, at, low, high, count, out, o)?;
+        last = ends(text, at);
+        at = l.at;
+        o = l.out;
+        n += 1;
     }
     if last {
-        return Parsed::Done { words: o, lines: n };
+        return Some(Parsed { words: o, lines: n });
     }
-    Parsed::Bad
+    None
 }

@@ -3,7 +3,7 @@
 use Rattle.std.specs.Prelude.{ℕ, ◌+◌, ◌≤◌, ◌<◌, ◌≡◌, Bool, true, false, List, [], ◌∷◌, length, if◌then◌else◌}
 use Rattle.std.proofs.Common.{sym, ap, ◌∙◌, arith, rules, length-append}
 use Rattle.std.proofs.lemmas.Bool.{false≢true}
-use Rattle.atlite.specs.Base.{done, ◌>>=◌}
+use Rattle.atlite.specs.Base.{done}
 use Rattle.atlite.specs.Lexicon.{dictionary}
 use Rattle.atlite.specs.Script.{Src, Line, expression, define, size, join}
 use Rattle.atlite.specs.Scope.{bound, single}

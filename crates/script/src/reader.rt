@@ -7,7 +7,6 @@ ghost use Rattle.script.specs.ReaderCauses.{Sized, Grammar, Scoped, Sound};
 
 use atlite::Tabled;
 use layout::TABLE;
-use parse::Parsed;
 
 // How many different words the text has.
 fn known(count: usize, apply: bool) -> usize
@@ -95,6 +94,7 @@ fn scopes(
 }
 
 // The grammar, and what comes after it.
+#[tactic(auto, using(crate::specs::ParserAnswer::laws))]
 fn grammar(text: &[u8], table: &mut [u32]) -> Tabled
     requires { Sized text.now table.old }
     ensures { Reads text.now table.old result table.new }
@@ -105,13 +105,10 @@ fn grammar(text: &[u8], table: &mut [u32]) -> Tabled
     let count = found.count;
     let apply = found.apply;
     let mut s = [0u64; 4096];
-    let parsed = parse::parse(text, &low, &high, count, &mut s);
-    match parsed {
-        Parsed::Done { words, lines } => {
-            scopes(text, &s, words, lines, &low, &high, count, apply, table)
-        }
-        Parsed::Bad => Tabled::Refused(2),
-    }
+    let Some(p) = parse::parse(text, &low, &high, count, &mut s) else {
+        return Tabled::Refused(2);
+    };
+    scopes(text, &s, p.words, p.lines, &low, &high, count, apply, table)
 }
 
 // Lengths, and what comes after them.

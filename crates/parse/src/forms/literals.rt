@@ -6,12 +6,13 @@ ghost use Rattle.lexemes.specs.Atoms.{Ready};
 ghost use Rattle.lexemes.specs.DescentContract.{Place, Ended, Reads, Lists, literals, literal_words, fields_from, field_at, methods_from, method_at};
 
 use crate::forms::one;
-use lexemes::headers::{Header, method_head};
-use lexemes::names::{Name, word_at};
+use lexemes::headers::method_head;
+use lexemes::names::word_at;
 use lexemes::scratch::{Listed, Step, close, head, literal_head};
 
 // Fields and methods.
 #[cycle(expressions)]
+#[tactic(auto, using(crate::specs::Cycle::literal_laws))]
 pub fn literal(
     text: &[u8],
     at: usize,
@@ -21,19 +22,17 @@ pub fn literal(
     out: &mut [u64],
     o: usize,
     k: u8,
-) -> Step
+) -> Option<Step>
     requires { Ready text.now low.now high.now count × Place text.now at (o + 1) × (length out.old ≡ 4096) }
     ensures { Reads (literal_words k) (literals text.now) text.now at o out.old out.new result }
 {
-    let a = fields(text, at, low, high, count, out, o + 1, 0);
-    match a {
-        Listed::Items(i, p, c) => bodies(text, i, low, high, count, out, o, p, k, c),
-        Listed::NoItems => Step::Bad,
-    }
+    let f = fields(text, at, low, high, count, out, o + 1, 0)?;
+    bodies(text, f.at, low, high, count, out, o, f.out, k, f.count)
 }
 
 // The methods of a literal with `c` fields and its closing bracket, with their words at `p` and the head word's place at `o`.
 #[cycle(expressions)]
+#[tactic(auto, using(crate::specs::Cycle::bodies_laws))]
 fn bodies(
     text: &[u8],
     at: usize,
@@ -45,19 +44,17 @@ fn bodies(
     p: usize,
     k: u8,
     c: usize,
-) -> Step
+) -> Option<Step>
     requires { Ready text.now low.now high.now count × Place text.now at p × (length out.old ≡ 4096) × (o < 4096) × (c ≤ 4) }
     ensures { Ended k c text.now at p out.old o out.new result }
 {
-    let b = methods(text, at, low, high, count, out, p, 0);
-    match b {
-        Listed::Items(j, q, d) => close(text, j, out, o, literal_head(k, c, d), q),
-        Listed::NoItems => Step::Bad,
-    }
+    let m = methods(text, at, low, high, count, out, p, 0)?;
+    close(text, m.at, out, o, literal_head(k, c, m.count), m.out)
 }
 
 // Fields, with `b` before them and at most four in all.
 #[cycle(expressions)]
+#[tactic(auto, using(crate::specs::Cycle::fields_laws))]
 fn fields(
     text: &[u8],
     at: usize,
@@ -67,21 +64,27 @@ fn fields(
     out: &mut [u64],
     o: usize,
     b: usize,
-) -> Listed
+) -> Option<Listed>
     requires { Ready text.now low.now high.now count × Place text.now at o × (length out.old ≡ 4096) × (b ≤ 4) }
     ensures { Lists wide_fields count_fields 4 b (fields_from b text.now) text.now at o out.old out.new result }
 {
+    let end = Some(Listed {
+        at,
+        out: o,
+        count: b,
+    });
     if b == 4 {
-        return Listed::Items(at, o, b);
+        return end;
     }
     if scan::starts(text, at, b" (field ") {
         return field(text, at + 8, low, high, count, out, o, b);
     }
-    Listed::Items(at, o, b)
+    end
 }
 
 // A field behind its opening, and those after it.
 #[cycle(expressions)]
+#[tactic(auto, using(crate::specs::Cycle::field_laws))]
 fn field(
     text: &[u8],
     at: usize,
@@ -91,25 +94,18 @@ fn field(
     out: &mut [u64],
     o: usize,
     b: usize,
-) -> Listed
+) -> Option<Listed>
     requires { Ready text.now low.now high.now count × Place text.now at (o + 1) × (length out.old ≡ 4096) × (b < 4) }
     ensures { Lists wide_fields count_fields 4 b (field_at b text.now) text.now at o out.old out.new result }
 {
-    let x = word_at(text, at, low, high, count);
-    match x {
-        Name::Word(f, i) => {
-            let a = one(text, i, low, high, count, out, o, head(128, f));
-            match a {
-                Step::Done(j, p) => fields(text, j, low, high, count, out, p, b + 1),
-                Step::Bad => Listed::NoItems,
-            }
-        }
-        Name::NoWord => Listed::NoItems,
-    }
+    let f = word_at(text, at, low, high, count)?;
+    let e = one(text, f.end, low, high, count, out, o, head(128, f.number))?;
+    fields(text, e.at, low, high, count, out, e.out, b + 1)
 }
 
 // Methods, in the same way.
 #[cycle(expressions)]
+#[tactic(auto, using(crate::specs::Cycle::methods_laws))]
 fn methods(
     text: &[u8],
     at: usize,
@@ -119,20 +115,26 @@ fn methods(
     out: &mut [u64],
     o: usize,
     b: usize,
-) -> Listed
+) -> Option<Listed>
     requires { Ready text.now low.now high.now count × Place text.now at o × (length out.old ≡ 4096) × (b ≤ 4) }
     ensures { Lists wide_methods count_methods 4 b (methods_from b text.now) text.now at o out.old out.new result }
 {
+    let end = Some(Listed {
+        at,
+        out: o,
+        count: b,
+    });
     if b == 4 {
-        return Listed::Items(at, o, b);
+        return end;
     }
     if scan::starts(text, at, b" (method ") {
         return method(text, at + 9, low, high, count, out, o, b);
     }
-    Listed::Items(at, o, b)
+    end
 }
 
 #[cycle(expressions)]
+#[tactic(auto, using(crate::specs::Cycle::method_laws))]
 fn method(
     text: &[u8],
     at: usize,
@@ -142,19 +144,11 @@ fn method(
     out: &mut [u64],
     o: usize,
     b: usize,
-) -> Listed
+) -> Option<Listed>
     requires { Ready text.now low.now high.now count × Place text.now at (o + 1) × (length out.old ≡ 4096) × (b < 4) }
     ensures { Lists wide_methods count_methods 4 b (method_at b text.now) text.now at o out.old out.new result }
 {
-    let h = method_head(text, at, low, high, count);
-    match h {
-        Header::Head(i, w) => {
-            let a = one(text, i, low, high, count, out, o, w);
-            match a {
-                Step::Done(j, p) => methods(text, j, low, high, count, out, p, b + 1),
-                Step::Bad => Listed::NoItems,
-            }
-        }
-        Header::NoHead => Listed::NoItems,
-    }
+    let m = method_head(text, at, low, high, count)?;
+    let e = one(text, m.end, low, high, count, out, o, m.word)?;
+    methods(text, e.at, low, high, count, out, e.out, b + 1)
 }

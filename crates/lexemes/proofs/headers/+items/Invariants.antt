@@ -1,6 +1,4 @@
--- Each way to return has its law. Assumes nothing.
-use Rattle.lexemes.specs.Headers.{laws}
-use Prim.Native.Nat.{ℕ, ◌<◌}
+-- What falls is the number of parameters that may still come. Assumes nothing.
 use Rattle.lexemes.proofs.headers.+items.Given as goal
 
 abbrev pub decreases-items : goal.decreases-items

@@ -1,10 +1,5 @@
 -- The descent: what is left of the text falls, and each way to return has its law. Assumes nothing.
-use native.Mathlib.Omega.{arith}
-use Rattle.parse.specs.Cycle.{args-back, args-fall, args-misc, args-place, arguments-back, arguments-misc, arguments-place, between-back, between-fall, between-misc, between-place, bodies-back, bodies-misc, bodies-place, bracket-back, bracket-misc, bracket-place, expr-back, expr-fall, expr-misc, expr-place, field_back, field-fall, field-misc, field-place, fields-back, fields-fall, fields-misc, fields-place, form-back, form-misc, form-place, func-back, func-fall, func-misc, func-place, future-back, future-fall, future-misc, future-place, let-in-back, let-in-fall, let-in-misc, let-in-place, literal-back, literal-fall, literal-misc, literal-place, message-back, message-fall, message-misc, message-place, method-back, method-fall, method-misc, method-place, methods-back, methods-fall, methods-misc, methods-place, one-back, one-misc, parts-back, parts-fall, parts-misc, parts-place, spaced-back, spaced-misc, spaced-place}
-use Rattle.parse.specs.FormLaws.{form-rest}
-use lib.ListN.{length}
-use Prim.Native.Nat.{ℕ, ◌+◌, ◌-◌, ◌*◌, ◌<◌}
-use Rattle.parse.proofs.forms.+expressions.{statement}
+use Rattle.std.proofs.Common.{length, ◌+◌, ◌-◌, ◌*◌}
 use Rattle.parse.proofs.forms.+expressions.Given as goal
 
 abbrev pub decreases-between : goal.decreases-between
