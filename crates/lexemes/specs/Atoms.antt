@@ -1,10 +1,9 @@
 -- What the functions over words and numbers of a text answer. Assumes nothing.
-use Rattle.std.specs.Prelude.{◌≡◌, true, false, List, ℕ, ◌^◌, ◌≤◌, ◌<◌, length, drop, Option, Some, None}
+use Rattle.std.specs.Prelude.{◌≡◌, true, false, ℕ, ◌^◌, ◌≤◌, ◌<◌, length, drop, Option, Some, None}
 use Rattle.atlite.specs.Base.{Result, done, refused, all}
 use Rattle.atlite.specs.Lexicon.{Bytes, is_digit, is_number, decimal, dictionary}
 use Rattle.atlite.specs.Reader.{read_word, spaced_word}
 use Rattle.atlite.specs.Term.{top}
-use Rattle.scan.specs.WordNumbers.{Holds}
 use Rattle.words.specs.Wide.{wide_limit}
 use Rattle.lexemes.specs.declared.names.Name.{Name}
 
@@ -22,14 +21,6 @@ pub record Counted (w : Bytes) (i n : ℕ) : Type 0 where
   pub digits : all is_digit w ≡ all is_digit (drop i w)
   pub is : decimal 0 w ≡ decimal n (drop i w)
   pub fits : n < 10 ^ i
-
--- the arrays hold the dictionary of a text that is short enough
-pub record Ready (t : Bytes) (low high : List ℕ) (count : ℕ) : Type 0 where
-  pub held : Holds (dictionary t) low high count
-  pub lows : count ≤ length low
-  pub highs : count ≤ length high
-  pub few : count ≤ 2048
-  pub short : length t ≤ 4096
 
 -- a name that was read up to i, or a refusal
 pub record NameRead (R : Result (ℕ × Bytes)) (t : Bytes) (at x i : ℕ) : Type 0 where

@@ -10,11 +10,11 @@ use Rattle.atlite.specs.Reader.{eat, after, read_word, spaced, spaced_word}
 use Rattle.atlite_laws.specs.Facts.{same_true, same-false-sym}
 use Rattle.scan.specs.Runs.{Run, Starts, index}
 use Rattle.scan.specs.Keywords.{index-le}
-use Rattle.scan.specs.WordNumbers.{low_part, high_part, Placed}
+use Rattle.scan.specs.WordNumbers.{low_part, high_part, Holds, Placed}
 use Rattle.scan.specs.DictionaryLaws.{word-nonempty, word-is, not-apply, word_room}
 use Rattle.words.specs.Wide.{wide_limit}
 use Rattle.lexemes.specs.declared.names.Name.{Name}
-use Rattle.lexemes.specs.Atoms.{Ready, NameRead, Named, NameOf, SpacedName, worded}
+use Rattle.lexemes.specs.Atoms.{NameRead, Named, NameOf, SpacedName, worded}
 
 -- ---- places
 place-some : (ws : List Bytes) (w : Bytes) (n : ℕ) → index ws w < length ws → place n ws w ≡ some (index ws w + n)
@@ -59,18 +59,17 @@ module _ (t : Bytes) (at e : ℕ) (h : Run t at e) where
       let w = same_true (bytes "apply") (slice at e t) (sym u ∙ v) in
       record { is = read-run (dictionary t) ∙ rw (sym p ∙ q, ← w); far = far (sym p ∙ q); within = h.within; small = omega arith }
 
-  module _ (low high : List ℕ) (count : ℕ) (s : Ready t low high count) (k : is_word (slice at e t) ≡ true)
+  module _ (low high : List ℕ) (count : ℕ) (s : Holds (dictionary t) low high count) (few : count ≤ 2048) (k : is_word (slice at e t) ≡ true)
       (n : same_bytes (bytes "apply") (slice at e t) ≡ false) (l m i : ℕ) (lo : l ≡ low_part (slice at e t))
       (hi : m ≡ high_part (slice at e t)) (p : Placed low high count l m i) where
     at-index : i ≡ index (dictionary t) (slice at e t)
     unfolding Placed
-    at-index = p (dictionary t) (slice at e t) s.held k lo hi
+    at-index = p (dictionary t) (slice at e t) s k lo hi
 
     pub place_found : i < count → NameOf t at (worded (i + 8) e)
     unfolding NameOf Named number_of require or_refuse
     place_found c =
-        let d = s.held.counted in
-        let f = s.few in
+        let d = s.counted in
         let x = at-index in
         record {
           is = read-run (dictionary t) ∙ rw (k, same-false-sym (bytes "apply") (slice at e t) n, place-some (dictionary t) (slice at e t) 8 (omega arith), ← x);
@@ -82,7 +81,7 @@ module _ (t : Bytes) (at e : ℕ) (h : Run t at e) where
     pub place-missing : count ≤ i → NameOf t at None
     unfolding NameOf Named number_of require or_refuse
     place-missing c =
-        let d = s.held.counted in
+        let d = s.counted in
         let x = at-index in
         let y = index-le (slice at e t) (dictionary t) in
         read-run (dictionary t) ∙ rw (k, same-false-sym (bytes "apply") (slice at e t) n, place_none (dictionary t) (slice at e t) 8 (omega arith))

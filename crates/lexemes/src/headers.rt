@@ -1,11 +1,10 @@
 // A method's header: its name and its parameters, in one word.
 ghost use Rattle.std.specs.Prelude.{◌≡◌, ◌+◌, ◌*◌, ◌≤◌, ◌<◌, length};
 ghost use Rattle.words.specs.Wide.{wide_limit, wide_third};
-ghost use Rattle.lexemes.specs.Atoms.{Ready};
 ghost use Rattle.lexemes.specs.Headers.{params_at, ItemsOf, NamesOf, ParamsOf, HeaderOf};
 
-use crate::names::{spaced_word, word_at};
 use crate::scratch::{LIMIT, method_word};
+use crate::source::Source;
 
 // Parameters: the position behind them, their count, and their names as one number.
 #[derive(Clone, Copy)]
@@ -47,79 +46,61 @@ pub struct Header {
     pub word: u64,
 }
 
-// A method's name and its parameters.
-#[tactic(auto, using(crate::specs::Headers::laws))]
-pub fn method_head(
-    text: &[u8],
-    at: usize,
-    low: &[u64],
-    high: &[u32],
-    count: usize,
-) -> Option<Header>
-    requires { Ready text.now low.now high.now count × (at ≤ length text.now) }
-    ensures { HeaderOf text.now at result }
-{
-    let m = word_at(text, at, low, high, count)?;
-    parameters(text, m.end, low, high, count, m.number)
-}
+impl Source<'_> {
+    // A method's name and its parameters.
+    #[tactic(auto, using(crate::specs::Headers::laws))]
+    pub fn method_head(&self, at: usize) -> Option<Header>
+        requires { at ≤ length self.now.text.now }
+        ensures { HeaderOf self.now.text.now at result }
+    {
+        let m = self.word_at(at)?;
+        self.parameters(m.end, m.number)
+    }
 
-// The parameters of the method named `m`.
-#[tactic(auto, using(crate::specs::Headers::laws))]
-fn parameters(
-    text: &[u8],
-    at: usize,
-    low: &[u64],
-    high: &[u32],
-    count: usize,
-    m: usize,
-) -> Option<Header>
-    requires { Ready text.now low.now high.now count × (at ≤ length text.now) × (m < wide_limit) }
-    ensures { ParamsOf m text.now at result }
-{
-    if !scan::starts(text, at, b" (") {
-        return None;
+    // The parameters of the method named `m`.
+    #[tactic(auto, using(crate::specs::Headers::laws))]
+    fn parameters(&self, at: usize, m: usize) -> Option<Header>
+        requires { (at ≤ length self.now.text.now) × (m < wide_limit) }
+        ensures { ParamsOf m self.now.text.now at result }
+    {
+        if !scan::starts(self.text, at, b" (") {
+            return None;
+        }
+        let p = self.names(at + 2)?;
+        Some(Header {
+            end: p.end,
+            word: method_word(m, p.count, p.packed),
+        })
     }
-    let p = names(text, at + 2, low, high, count)?;
-    Some(Header {
-        end: p.end,
-        word: method_word(m, p.count, p.packed),
-    })
-}
 
-// Parameters behind their opening bracket.
-#[tactic(auto, using(crate::specs::Headers::laws))]
-fn names(text: &[u8], at: usize, low: &[u64], high: &[u32], count: usize) -> Option<Params>
-    requires { Ready text.now low.now high.now count × (at ≤ length text.now) }
-    ensures { NamesOf text.now at result }
-{
-    if scan::starts(text, at, b")") {
-        return Some(Params::none(at + 1));
+    // Parameters behind their opening bracket.
+    #[tactic(auto, using(crate::specs::Headers::laws))]
+    fn names(&self, at: usize) -> Option<Params>
+        requires { at ≤ length self.now.text.now }
+        ensures { NamesOf self.now.text.now at result }
+    {
+        if scan::starts(self.text, at, b")") {
+            return Some(Params::none(at + 1));
+        }
+        let x = self.word_at(at)?;
+        let rest = self.items(x.end, 2)?;
+        Some(rest.behind(x.number))
     }
-    let x = word_at(text, at, low, high, count)?;
-    let rest = items(text, x.end, low, high, count, 2)?;
-    Some(rest.behind(x.number))
-}
 
-// At most `k` more parameters to the closing bracket, each behind a space.
-#[tactic(auto, using(crate::specs::Headers::laws))]
-fn items(
-    text: &[u8],
-    at: usize,
-    low: &[u64],
-    high: &[u32],
-    count: usize,
-    k: usize,
-) -> Option<Params>
-    requires { Ready text.now low.now high.now count × (at ≤ length text.now) × (k ≤ 2) }
-    ensures { ItemsOf k text.now at result }
-{
-    if scan::starts(text, at, b")") {
-        return Some(Params::none(at + 1));
+    // At most `k` more parameters to the closing bracket, each behind a space.
+    #[tactic(auto, using(crate::specs::Headers::laws))]
+    fn items(&self, at: usize, k: usize) -> Option<Params>
+        requires { (at ≤ length self.now.text.now) × (k ≤ 2) }
+        ensures { ItemsOf k self.now.text.now at result }
+    {
+        if scan::starts(self.text, at, b")") {
+            return Some(Params::none(at + 1));
+        }
+        if k == 0 {
+            return None;
+        }
+        let x = self.spaced_word(at)?;
+        let rest = self.items(x.end, k - 1)?;
+        Some(rest.behind(x.number))
     }
-    if k == 0 {
-        return None;
-    }
-    let x = spaced_word(text, at, low, high, count)?;
-    let rest = items(text, x.end, low, high, count, k - 1)?;
-    Some(rest.behind(x.number))
 }

@@ -1,16 +1,22 @@
 // Scratch words: how they are made of kinds, names and counts, and how one is put in its place.
-ghost use Rattle.std.specs.Prelude.{◌≡◌, ◌+◌, ◌*◌, ◌≤◌, ◌<◌, length, set};
+ghost use Rattle.std.specs.Prelude.{◌≡◌, ◌+◌, ◌*◌, ◌≤◌, ◌<◌, set};
 ghost use Rattle.atlite.specs.Term.{top};
 ghost use Rattle.layout.specs.Numbers.{digit_limit};
 ghost use Rattle.words.specs.Wide.{wide, wide_limit, pair, wide_names};
 ghost use Rattle.lexemes.specs.DescentContract.{Place, Closed, stepped};
 
+use crate::source::Source;
 use words::wide;
 
 // The numbers of the scratch form that positions and counts are put together with.
 pub const LIMIT: usize = wide::LIMIT as usize;
 
 const DIGIT: usize = wide::DIGIT as usize;
+
+// The words of `null` and `this`.
+pub const NULL: u64 = 1;
+
+pub const THIS: u64 = 6;
 
 // Where reading goes on in the text, and writing in the words.
 #[derive(Clone, Copy)]
@@ -28,8 +34,8 @@ pub struct Listed {
 }
 
 // Stores `w` at `o`, behind which the words go on at `p`.
-pub fn put(out: &mut [u64], o: usize, w: u64, i: usize, p: usize) -> Option<Step>
-    requires { o < length out.old }
+pub fn put(out: &mut [u64; 4096], o: usize, w: u64, i: usize, p: usize) -> Option<Step>
+    requires { o < 4096 }
     ensures { (result ≡ stepped i p) × (out.new ≡ set out.old o w) }
 {
     out[o] = w;
@@ -38,11 +44,18 @@ pub fn put(out: &mut [u64], o: usize, w: u64, i: usize, p: usize) -> Option<Step
 
 // The closing bracket of a form whose head word `w` has its place at `o`.
 #[tactic(auto, using(crate::specs::DescentLaws::closing))]
-pub fn close(text: &[u8], at: usize, out: &mut [u64], o: usize, w: u64, p: usize) -> Option<Step>
-    requires { Place text.now at p × (length out.old ≡ 4096) × (o < 4096) }
-    ensures { Closed text.now at out.old o w p out.new result }
+pub fn close(
+    s: &Source,
+    at: usize,
+    out: &mut [u64; 4096],
+    o: usize,
+    w: u64,
+    p: usize,
+) -> Option<Step>
+    requires { Place s.now.text.now at p × (o < 4096) }
+    ensures { Closed s.now.text.now at out.old o w p out.new result }
 {
-    if scan::starts(text, at, b")") {
+    if scan::starts(s.text, at, b")") {
         return put(out, o, w, at + 1, p);
     }
     None

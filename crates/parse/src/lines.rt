@@ -2,22 +2,21 @@
 ghost use Rattle.std.specs.Prelude.{◌≡◌, ◌+◌, ◌≤◌, length};
 ghost use Rattle.words.specs.Wide.{wide_line};
 ghost use Rattle.parse.specs.TextLaws.{Closing, Parses};
-ghost use Rattle.lexemes.specs.Atoms.{Ready};
 ghost use Rattle.parse.specs.Lines.{LineEnd, definitions, sentences, line_of};
 ghost use Rattle.lexemes.specs.DescentContract.{Place, Reads};
 
 use crate::Parsed;
 use crate::forms::{expr, one};
-use lexemes::names::word_at;
 use lexemes::scratch::{Step, head};
+use lexemes::source::Source;
 
 // The end of a line.
 #[tactic(auto, using(crate::specs::Lines::laws))]
-fn newline(text: &[u8], at: usize, p: usize) -> Option<Step>
-    requires { at ≤ length text.now }
-    ensures { LineEnd text.now at p result }
+fn newline(s: &Source, at: usize, p: usize) -> Option<Step>
+    requires { at ≤ length s.now.text.now }
+    ensures { LineEnd s.now.text.now at p result }
 {
-    if scan::starts(text, at, b"\n") {
+    if scan::starts(s.text, at, b"\n") {
         return Some(Step { at: at + 1, out: p });
     }
     None
@@ -25,89 +24,58 @@ fn newline(text: &[u8], at: usize, p: usize) -> Option<Step>
 
 // A definition behind its opening.
 #[tactic(auto, using(crate::specs::Lines::laws))]
-fn definition(
-    text: &[u8],
-    at: usize,
-    low: &[u64],
-    high: &[u32],
-    count: usize,
-    out: &mut [u64],
-    o: usize,
-) -> Option<Step>
-    requires { Ready text.now low.now high.now count × Place text.now at (o + 1) × (length out.old ≡ 4096) }
-    ensures { Reads wide_line (definitions text.now) text.now at o out.old out.new result }
+fn definition(s: &Source, at: usize, out: &mut [u64; 4096], o: usize) -> Option<Step>
+    requires { Place s.now.text.now at (o + 1) }
+    ensures { Reads wide_line (definitions s.now.text.now) s.now.text.now at o out.old out.new result }
 {
-    let x = word_at(text, at, low, high, count)?;
-    let e = one(text, x.end, low, high, count, out, o, head(130, x.number))?;
-    newline(text, e.at, e.out)
+    let x = s.word_at(at)?;
+    let e = one(s, x.end, out, o, head(130, x.number))?;
+    newline(s, e.at, e.out)
 }
 
 // An expression as a line.
 #[tactic(auto, using(crate::specs::Lines::laws))]
-fn sentence(
-    text: &[u8],
-    at: usize,
-    low: &[u64],
-    high: &[u32],
-    count: usize,
-    out: &mut [u64],
-    o: usize,
-) -> Option<Step>
-    requires { Ready text.now low.now high.now count × Place text.now at o × (length out.old ≡ 4096) }
-    ensures { Reads wide_line (sentences text.now) text.now at o out.old out.new result }
+fn sentence(s: &Source, at: usize, out: &mut [u64; 4096], o: usize) -> Option<Step>
+    requires { Place s.now.text.now at o }
+    ensures { Reads wide_line (sentences s.now.text.now) s.now.text.now at o out.old out.new result }
 {
-    let e = expr(text, at, low, high, count, out, o)?;
-    newline(text, e.at, e.out)
+    let e = expr(s, at, out, o)?;
+    newline(s, e.at, e.out)
 }
 
 // A line.
 #[tactic(auto, using(crate::specs::Lines::laws))]
-fn line(
-    text: &[u8],
-    at: usize,
-    low: &[u64],
-    high: &[u32],
-    count: usize,
-    out: &mut [u64],
-    o: usize,
-) -> Option<Step>
-    requires { Ready text.now low.now high.now count × Place text.now at o × (length out.old ≡ 4096) }
-    ensures { Reads wide_line (line_of text.now) text.now at o out.old out.new result }
+fn line(s: &Source, at: usize, out: &mut [u64; 4096], o: usize) -> Option<Step>
+    requires { Place s.now.text.now at o }
+    ensures { Reads wide_line (line_of s.now.text.now) s.now.text.now at o out.old out.new result }
 {
-    if scan::starts(text, at, b"(def ") {
-        return definition(text, at + 5, low, high, count, out, o);
+    if scan::starts(s.text, at, b"(def ") {
+        return definition(s, at + 5, out, o);
     }
-    sentence(text, at, low, high, count, out, o)
+    sentence(s, at, out, o)
 }
 
 // Whether the line at `at` is an expression, on which a script may end.
 #[tactic(auto, using(crate::specs::TextLaws::laws))]
-fn ends(text: &[u8], at: usize) -> bool
-    requires { at ≤ length text.now }
-    ensures { Closing text.now at result }
+fn ends(s: &Source, at: usize) -> bool
+    requires { at ≤ length s.now.text.now }
+    ensures { Closing s.now.text.now at result }
 {
-    !scan::starts(text, at, b"(def ")
+    !scan::starts(s.text, at, b"(def ")
 }
 
 // The lines of a text.
 #[tactic(auto, using(crate::specs::TextLaws::laws))]
-pub fn lines(
-    text: &[u8],
-    low: &[u64],
-    high: &[u32],
-    count: usize,
-    out: &mut [u64],
-) -> Option<Parsed>
-    requires { Ready text.now low.now high.now count × (length out.old ≡ 4096) }
-    ensures { Parses text.now out.new result }
+pub fn lines(s: &Source, out: &mut [u64; 4096]) -> Option<Parsed>
+    ensures { Parses s.now.text.now out.new result }
 {
     let mut at = 0;
     let mut o = 0;
     let mut n = 0;
     let mut last = false;
-    while at < text.len() {
-        let l = line(text, at, low, high, count, out, o)?;
-        last = ends(text, at);
+    while at < s.text.len() {
+        let l = line(s, at, out, o)?;
+        last = ends(s, at);
         at = l.at;
         o = l.out;
         n += 1;

@@ -7,6 +7,7 @@ ghost use Rattle.script.specs.ReaderCauses.{Sized, Grammar, Scoped, Sound};
 
 use atlite::Tabled;
 use layout::TABLE;
+use parse::Source;
 
 // How many different words the text has.
 fn known(count: usize, apply: bool) -> usize
@@ -105,7 +106,13 @@ fn grammar(text: &[u8], table: &mut [u32]) -> Tabled
     let count = found.count;
     let apply = found.apply;
     let mut s = [0u64; 4096];
-    let Some(p) = parse::parse(text, &low, &high, count, &mut s) else {
+    let source = Source {
+        text,
+        low: &low,
+        high: &high,
+        count,
+    };
+    let Some(p) = parse::parse(&source, &mut s) else {
         return Tabled::Refused(2);
     };
     scopes(text, &s, p.words, p.lines, &low, &high, count, apply, table)

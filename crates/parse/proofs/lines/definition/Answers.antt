@@ -3,4 +3,4 @@ use Rattle.parse.specs.Lines.{laws}
 use Rattle.parse.proofs.lines.definition.Goals as goal
 
 pub one-requires : goal.one-requires
-one-requires c = (search laws, search (laws, c.in_ok-x.ensures), search laws)
+one-requires c = search (laws, c.in_ok-x.ensures)
