@@ -23,13 +23,7 @@ stepped i p = Some (record { at = i; out = p })
 abbrev pub listed : ℕ → ℕ → ℕ → Option Listed
 listed i p c = Some (record { at = i; out = p; count = c })
 
--- where reading and writing go on: no more was written than read, so that all fits
-pub record Place (t : List ℕ) (at o : ℕ) : Type 0 where
-  pub short : length t ≤ 4096
-  pub within : at ≤ length t
-  pub behind : o ≤ at
-
--- what was read from `at` to i, and written from o to p
+-- what was read from `at` to i, and written from o to p: no more was written than read, so that all fits
 pub record Read {A : Type 0} (enc : A → List ℕ) (t : Bytes) (at o : ℕ) (old new : List ℕ) (R : Result (A × Bytes)) (i p : ℕ) : Type 0 where
   pub value : A
   pub is : R ≡ done (value, drop i t)

@@ -1,5 +1,5 @@
 -- One step of the descent after another: positions, writes, and the forms of expressions and words. Assumes nothing.
-use Rattle.std.specs.Prelude.{◌≡◌, refl, Bool, true, false, List, [], ◌∷◌, ℕ, suc, ◌+◌, ◌-◌, ◌*◌, ◌≤◌, ◌<◌, length, drop, set, Option, Some, None}
+use Rattle.std.specs.Prelude.{◌≡◌, refl, Bool, true, false, List, [], ◌∷◌, ℕ, suc, ◌+◌, ◌-◌, ◌≤◌, ◌<◌, length, drop, set, Option, Some, None}
 use Rattle.std.proofs.Common.{ap, ◌∙◌, add-one, rules}
 use native.Mathlib.Omega.{arith}
 use Rattle.std.proofs.lemmas.List.Edits.{sets}
@@ -10,12 +10,11 @@ use Rattle.atlite.specs.Script.{Src}
 use Rattle.atlite.specs.Keywords.{operators}
 use Rattle.atlite.specs.Reader.{Reading, spaced, read_expr}
 use Rattle.words.specs.Wide.{wide_src}
-use Rattle.scan.specs.Runs.{Run, Starts}
-use Rattle.lexemes.specs.declared.names.Name.{Name}
+use Rattle.scan.specs.Runs.{Starts}
 use Rattle.lexemes.specs.declared.scratch.Step.{Step}
-use Rattle.lexemes.specs.Atoms.{Named, NameOf, SpacedName}
+use Rattle.lexemes.specs.Atoms.{Named, SpacedName}
 use Rattle.lexemes.specs.NameLaws.{eat-starts, eat-not, starts-room}
-use Rattle.lexemes.specs.DescentContract.{stepped, Place, Read, Took, Reads, Closed, spaceds, exprs, read_mid, mids, mid_words, read_send, sends, send_words}
+use Rattle.lexemes.specs.DescentContract.{stepped, Read, Took, Reads, Closed, spaceds, exprs, read_mid, mids, mid_words, read_send, sends, send_words}
 
 -- ---- writes
 set_before : (xs l : List ℕ) (i k h : ℕ) → i < k → set (sets l k xs) i h ≡ sets (set l i h) k xs
@@ -37,69 +36,12 @@ module _ (A : Type 0) (enc : A → List ℕ) (R : ℕ → Reading A) (t : Bytes)
   pub step-within : s.at ≤ length t
   step-within = let r = once in r.within
 
-  pub place-step : Place t at o → Place t s.at s.out
-  place-step h =
-      let r = once in
-      let b = r.short in
-      let c = h.behind in
-      let w = r.within in
-      record { short = h.short; within = w; behind = omega arith }
+  pub step-far : at < s.at
+  step-far = let r = once in r.far
 
-  pub place-form : Place t at (o + 1) → Place t s.at s.out
-  place-form h = let c = h.behind in place-step (record { short = h.short; within = h.within; behind = omega arith })
-
-  -- what is left of the text has fallen, and falls on behind a word after it, and from a name or a header before it
-  pub fall-step : (k m τ : ℕ) → k ≤ m + 5 → 6 * (length t - at) + m ≡ τ → 6 * (length t - s.at) + k < τ
-  fall-step k m τ l q = let r = once in let f = r.far in let w = r.within in omega arith
-
-  pub fall-step-word : (x : Name) (k m τ : ℕ) → SpacedName t s.at (Some x) → k ≤ m + 5 → 6 * (length t - at) + m ≡ τ → 6 * (length t - x.end) + k < τ
-  unfolding SpacedName Named
-  fall-step-word x k m τ z l q = let r = once in let f = r.far in let g = z.far in let w = z.within in omega arith
-
-  pub fall-after : (b k m τ : ℕ) → b < at → k ≤ m + 5 → 6 * (length t - b) + m ≡ τ → 6 * (length t - s.at) + k < τ
-  fall-after b k m τ h l q = let r = once in let f = r.far in let w = r.within in omega arith
-
-module _ (t : Bytes) (at : ℕ) (x : Name) where
-  pub place-word : (o : ℕ) → SpacedName t at (Some x) → Place t at o → Place t x.end o
-  unfolding SpacedName Named
-  place-word o r h = let f = r.far in let b = h.behind in record { short = h.short; within = r.within; behind = omega arith }
-
-  pub place-name : (o : ℕ) → NameOf t at (Some x) → Place t at o → Place t x.end o
-  unfolding NameOf Named
-  place-name o r h = let f = r.far in let b = h.behind in record { short = h.short; within = r.within; behind = omega arith }
-
-  pub fall-word : (k m τ : ℕ) → SpacedName t at (Some x) → k ≤ m + 5 → 6 * (length t - at) + m ≡ τ → 6 * (length t - x.end) + k < τ
-  unfolding SpacedName Named
-  fall-word k m τ r l q = let f = r.far in let w = r.within in omega arith
-
-  pub fall-words : (k m τ : ℕ) (y : Name) → SpacedName t at (Some x) → SpacedName t x.end (Some y) → k ≤ m + 5 → 6 * (length t - at) + m ≡ τ → 6 * (length t - y.end) + k < τ
-  unfolding SpacedName Named
-  fall-words k m τ y r z l q = let f = r.far in let g = z.far in let w = z.within in omega arith
-
-  pub fall-name : (k m τ : ℕ) → NameOf t at (Some x) → k ≤ m + 5 → 6 * (length t - at) + m ≡ τ → 6 * (length t - x.end) + k < τ
-  unfolding NameOf Named
-  fall-name k m τ r l q = let f = r.far in let w = r.within in omega arith
-
-  -- behind a name, and an expression after it
-  pub fall-name-step : (A : Type 0) (enc : A → List ℕ) (R : ℕ → Reading A) (o : ℕ) (old new : List ℕ) (s : Step) (k m τ : ℕ) → NameOf t at (Some x)
-      → Reads enc R t x.end o old new (Some s) → k ≤ m + 5 → 6 * (length t - at) + m ≡ τ → 6 * (length t - s.at) + k < τ
-  unfolding NameOf Named
-  fall-name-step A enc R o old new s k m τ r u l q = fall-after A enc R t x.end o old new s u at k m τ r.far l q
-
-pub place-more : (t : List ℕ) (at o k b : ℕ) (v : Bytes) (r : Bool) → Starts t at (b ∷ v) r → r ≡ true → k ≡ suc (length v)
-    → Place t at o → Place t (at + k) (o + 1)
-place-more t at o k b v r s e l h =
-    let c = h.behind in
-    record { short = h.short; within = starts-room t at k (b ∷ v) r s e l; behind = omega arith }
-
-pub place-space : (t : List ℕ) (at o : ℕ) (r : Bool) → Starts t at (32 ∷ []) r → r ≡ true → Place t at o → Place t (at + 1) o
-place-space t at o r s e h =
-    let c = h.behind in
-    record { short = h.short; within = starts-room t at 1 (32 ∷ []) r s e refl; behind = omega arith }
-
-pub place-run : (t : List ℕ) (at o e : ℕ) → Run t at e → Place t at o → Place t e o
-place-run t at o e r h =
-    let c = h.behind in let f = r.from in record { short = h.short; within = r.within; behind = omega arith }
+  -- no more was written than read
+  pub step-short : o ≤ at → s.out ≤ s.at
+  step-short h = let r = once in let b = r.short in omega arith
 
 -- ---- results
 module _ (A : Type 0) (enc : A → List ℕ) (t : Bytes) (at o : ℕ) (old new : List ℕ) where
@@ -192,11 +134,3 @@ module _ (t : Bytes) (at o : ℕ) (old m₁ new : List ℕ) where
   pub send-first-bad : (k : ℕ) → Reads wide_src (spaceds t) t at (o + 1) old m₁ None → Reads (send_words k) (sends t) t at o old new None
   unfolding Reads Took sends read_send
   send-first-bad k u n l = rw (spaced-unread t at (o + 1) old m₁ new n l u)
-
--- ---- what the calls ask
-pub fall-open : (t : Bytes) (at τ : ℕ) (r : Bool) → Starts t at (40 ∷ []) r → r ≡ true → 6 * (length t - at) ≡ τ → 6 * (length t - (at + 1)) + 5 < τ
-fall-open t at τ r s e q = let z = starts-room t at 1 (40 ∷ []) r s e refl in omega arith
-
-pub fall-more : (t : Bytes) (at k τ b : ℕ) (v : Bytes) (r : Bool) → Starts t at (b ∷ v) r → r ≡ true → k ≡ suc (length v) → 6 * (length t - at) + 1 ≡ τ
-    → 6 * (length t - (at + k)) + 2 < τ
-fall-more t at k τ b v r s e l q = let z = starts-room t at k (b ∷ v) r s e l in omega arith

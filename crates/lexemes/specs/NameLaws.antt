@@ -159,6 +159,10 @@ module _ (t : Bytes) (at : ℕ) where
   unfolding NameOf Named
   name-small x s = s.small
 
+  pub name-far : (x : Name) → NameOf t at (Some x) → at < x.end
+  unfolding NameOf Named
+  name-far x s = s.far
+
   pub name-within : (x : Name) → NameOf t at (Some x) → x.end ≤ length t
   unfolding NameOf Named
   name-within x s = s.within
@@ -166,6 +170,10 @@ module _ (t : Bytes) (at : ℕ) where
   pub spaced-small : (x : Name) → SpacedName t at (Some x) → x.number < wide_limit
   unfolding SpacedName Named
   spaced-small x s = s.small
+
+  pub spaced-far : (x : Name) → SpacedName t at (Some x) → at < x.end
+  unfolding SpacedName Named
+  spaced-far x s = s.far
 
   pub spaced-within : (x : Name) → SpacedName t at (Some x) → x.end ≤ length t
   unfolding SpacedName Named

@@ -1,12 +1,12 @@
 // Atoms: expressions of one word.
-ghost use Rattle.std.specs.Prelude.{◌<◌, drop, None};
+ghost use Rattle.std.specs.Prelude.{◌≤◌, ◌<◌, length, drop, None};
 ghost use Rattle.std.proofs.Math.Seq.{slice};
 ghost use Rattle.atlite.specs.Lexicon.{dictionary};
 ghost use Rattle.atlite.specs.Reader.{read_atom};
 ghost use Rattle.words.specs.Wide.{wide_src};
 ghost use Rattle.scan.specs.Runs.{Run};
 ghost use Rattle.lexemes.specs.Atoms.{NumberIs};
-ghost use Rattle.lexemes.specs.DescentContract.{Place, Took};
+ghost use Rattle.lexemes.specs.DescentContract.{Took};
 
 use crate::numbers::decimal;
 use crate::scratch::{NULL, Step, THIS, head, number_word, put};
@@ -16,7 +16,7 @@ impl Source<'_> {
     // An atom: a number, `null`, `this` or a word.
     #[tactic(auto, using(crate::specs::AtomLaws::laws))]
     pub fn atom(&self, at: usize, out: &mut [u64; 4096], o: usize) -> Option<Step>
-        requires { Place self.now.text.now at o }
+        requires { (o ≤ at) × (at ≤ length self.now.text.now) }
         ensures { Took wide_src self.now.text.now at o out.old out.new (read_atom (dictionary self.now.text.now) (drop at self.now.text.now)) result }
     {
         let end = scan::run_end(self.text, at);
@@ -32,7 +32,7 @@ impl Source<'_> {
     // An atom that is no number.
     #[tactic(auto, using(crate::specs::AtomLaws::laws))]
     fn variable(&self, at: usize, end: usize, out: &mut [u64; 4096], o: usize) -> Option<Step>
-        requires { Place self.now.text.now at o × Run self.now.text.now at end × (at < end) × NumberIs (slice at end self.now.text.now) None }
+        requires { (o ≤ at) × (at ≤ length self.now.text.now) × Run self.now.text.now at end × (at < end) × NumberIs (slice at end self.now.text.now) None }
         ensures { Took wide_src self.now.text.now at o out.old out.new (read_atom (dictionary self.now.text.now) (drop at self.now.text.now)) result }
     {
         if scan::named(self.text, at, end, b"null") {

@@ -1,9 +1,9 @@
 // Scratch words: how they are made of kinds, names and counts, and how one is put in its place.
-ghost use Rattle.std.specs.Prelude.{◌≡◌, ◌+◌, ◌*◌, ◌≤◌, ◌<◌, set};
+ghost use Rattle.std.specs.Prelude.{◌≡◌, ◌+◌, ◌*◌, ◌≤◌, ◌<◌, length, set};
 ghost use Rattle.atlite.specs.Term.{top};
 ghost use Rattle.layout.specs.Numbers.{digit_limit};
 ghost use Rattle.words.specs.Wide.{wide, wide_limit, pair, wide_names};
-ghost use Rattle.lexemes.specs.DescentContract.{Place, Closed, stepped};
+ghost use Rattle.lexemes.specs.DescentContract.{Closed, stepped};
 
 use crate::source::Source;
 use words::wide;
@@ -52,7 +52,7 @@ pub fn close(
     w: u64,
     p: usize,
 ) -> Option<Step>
-    requires { Place s.now.text.now at p × (o < 4096) }
+    requires { (at ≤ length s.now.text.now) × (o < 4096) }
     ensures { Closed s.now.text.now at out.old o w p out.new result }
 {
     if scan::starts(s.text, at, b")") {

@@ -13,9 +13,9 @@ use Rattle.scan.specs.Runs.{Starts}
 use Rattle.lexemes.specs.declared.names.Name.{Name}
 use Rattle.lexemes.specs.declared.scratch.Step.{Step}
 use Rattle.lexemes.specs.Atoms.{NameOf}
-use Rattle.lexemes.specs.NameLaws.{eat-starts, eat-not, starts-room, name-read, name-refused, name-small}
+use Rattle.lexemes.specs.NameLaws.{eat-starts, eat-not, starts-room, name-read, name-refused, name-small, name-far, name-within}
 use Rattle.lexemes.specs.DescentContract.{stepped, Read, Took, Reads, exprs, read_one, ones, one_words}
-use Rattle.lexemes.specs.DescentLaws.{bind_assoc, place-name, place-more, step-within, shift}
+use Rattle.lexemes.specs.DescentLaws.{bind_assoc, step-within, shift}
 
 pub record EndsAt (t : Bytes) (j q i p : ℕ) : Type 0 where
   pub is : eat 10 (drop j t) ≡ done (drop i t)
@@ -120,4 +120,4 @@ module _ (t : Bytes) (at o : ℕ) (old new : List ℕ) (r : Bool) (s : Starts t 
   unfolding Reads Starts line_of read_line bytes sentences
   line-sentence k h n l = let y = rw k at s in shift Line wide_line t at o old new at _ _ a (omega arith) (rw (y, line_of, read_line)) (h n l)
 
-pub ruleset laws = (rules, starts-room, newline-so, newline-not, place-name, place-more, name-small, step-within, sentence-done, sentence-bad, definition-none, definition-done, definition-bad, line-definition, line-sentence)
+pub ruleset laws = (rules, starts-room, newline-so, newline-not, name-small, name-far, name-within, step-within, sentence-done, sentence-bad, definition-none, definition-done, definition-bad, line-definition, line-sentence)

@@ -19,7 +19,7 @@ use Rattle.lexemes.specs.declared.names.Name.{Name}
 use Rattle.lexemes.specs.declared.scratch.Step.{Step}
 use Rattle.lexemes.specs.declared.scratch.Listed.{Listed}
 use Rattle.lexemes.specs.Atoms.{NameRead, Named, NameOf}
-use Rattle.lexemes.specs.DescentContract.{listed, Place, Read, Took, Reads, Closed, ListRead, TookList, Lists, read_one, ones, one_words, read_literal, literals, literal_words, fields_from, methods_from, field_at, read_rest, TookEnd, Ended}
+use Rattle.lexemes.specs.DescentContract.{listed, Read, Took, Reads, Closed, ListRead, TookList, Lists, read_one, ones, one_words, read_literal, literals, literal_words, fields_from, methods_from, field_at, read_rest, TookEnd, Ended}
 use Rattle.layout_laws.specs.Writes.{sets-append}
 use Rattle.lexemes.specs.DescentLaws.{bind_assoc, headed}
 
@@ -30,16 +30,14 @@ module _ (A : Type 0) (enc : A → List ℕ) (num : A → ℕ) (most b : ℕ) (R
   unfolding Lists TookList
   once = u (length t - at + 1) (omega arith)
 
-  pub place-list : Place t at o → Place t s.at s.out
-  place-list h =
-      let r = once in
-      let b = r.short in
-      let c = h.behind in
-      let w = r.within in
-      record { short = h.short; within = w; behind = omega arith }
+  pub list-within : s.at ≤ length t
+  list-within = let r = once in r.within
 
-  pub fall-list : (τ : ℕ) → 6 * (length t - at) + 3 ≡ τ → 6 * (length t - s.at) + 2 < τ
-  fall-list τ q = let r = once in let f = r.far in let w = r.within in omega arith
+  pub list-far : at ≤ s.at
+  list-far = let r = once in r.far
+
+  pub list-short : o ≤ at → s.out ≤ s.at
+  list-short h = let r = once in let b = r.short in omega arith
 
   pub list-few : s.count ≤ most
   list-few = let r = once in r.few

@@ -1,11 +1,11 @@
 -- Methods, in the same way as fields; the header word has the name and the parameters. Assumes nothing.
-use Rattle.std.specs.Prelude.{◌≡◌, Bool, true, false, List, [], ◌∷◌, ℕ, suc, ◌+◌, ◌-◌, ◌*◌, ◌≤◌, ◌<◌, length, drop, Option, Some, None}
+use Rattle.std.specs.Prelude.{◌≡◌, Bool, true, false, List, [], ◌∷◌, ℕ, suc, ◌+◌, ◌-◌, ◌≤◌, ◌<◌, length, drop, Option, Some, None}
 use Rattle.std.proofs.Math.Path.{refl}
 use Rattle.std.proofs.Common.{◌∙◌}
 use native.Mathlib.Omega.{arith}
 use Rattle.atlite.specs.Base.{done, refused, bytes}
 use Rattle.atlite.specs.Lexicon.{Bytes, dictionary}
-use Rattle.atlite.specs.Script.{Src, SrcMethods}
+use Rattle.atlite.specs.Script.{SrcMethods}
 use Rattle.atlite.specs.Table.{count_methods}
 use Rattle.atlite.specs.Keywords.{operators}
 use Rattle.atlite.specs.Reader.{read_methods, read_expr}
@@ -15,8 +15,8 @@ use Rattle.lexemes.specs.declared.headers.Header.{Header}
 use Rattle.lexemes.specs.declared.scratch.Step.{Step}
 use Rattle.lexemes.specs.declared.scratch.Listed.{Listed}
 use Rattle.lexemes.specs.Headers.{HeadRead, TookHead, HeaderOf, read_all, read_header}
-use Rattle.lexemes.specs.DescentLaws.{bind_assoc, fall-after}
-use Rattle.lexemes.specs.DescentContract.{listed, Place, Reads, ListRead, TookList, Lists, read_one, ones, one_words, methods_from, method_at}
+use Rattle.lexemes.specs.DescentLaws.{bind_assoc}
+use Rattle.lexemes.specs.DescentContract.{listed, Reads, ListRead, TookList, Lists, read_one, ones, one_words, methods_from, method_at}
 use Rattle.parse.specs.LiteralLaws.{no_item, behind, item-core, OneRead, value-bad, value}
 
 -- ---- methods
@@ -94,16 +94,10 @@ module _ (t : Bytes) (at o b : ℕ) (old new : List ℕ) where
         let z = value t at i o w old m₁ named.far n e l u in let g = named.far in let g' = z.far in method-last n e.at e.out z (v n (omega arith))
 
 module _ (t : Bytes) (at : ℕ) (x : Header) (s : HeaderOf t at (Some x)) where
-  pub place-header : (o : ℕ) → Place t at o → Place t x.end o
+  pub header-far : at < x.end
   unfolding HeaderOf TookHead
-  place-header o h = let f = s.far in let b = h.behind in record { short = h.short; within = s.within; behind = omega arith }
+  header-far = s.far
 
-  pub fall-header : (k m τ : ℕ) → k ≤ m + 5 → 6 * (length t - at) + m ≡ τ → 6 * (length t - x.end) + k < τ
+  pub header-within : x.end ≤ length t
   unfolding HeaderOf TookHead
-  fall-header k m τ l q = let f = s.far in let w = s.within in omega arith
-
-  -- behind an expression after it
-  pub fall-header-step : (h o : ℕ) (old new : List ℕ) (e : Step) (k m τ : ℕ) → Reads (one_words h) (ones t) t x.end o old new (Some e)
-      → k ≤ m + 5 → 6 * (length t - at) + m ≡ τ → 6 * (length t - e.at) + k < τ
-  unfolding HeaderOf TookHead
-  fall-header-step h o old new e k m τ u l q = fall-after Src (one_words h) (ones t) t x.end o old new e u at k m τ s.far l q
+  header-within = s.within

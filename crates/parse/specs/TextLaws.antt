@@ -23,7 +23,7 @@ use Rattle.words.specs.Wide.{wide_line, wide_lines}
 use Rattle.scan.specs.Runs.{Starts}
 use Rattle.lexemes.specs.declared.scratch.Step.{Step}
 use Rattle.parse.specs.declared.Parsed.{Parsed}
-use Rattle.lexemes.specs.DescentContract.{Place, Read, Took, Reads}
+use Rattle.lexemes.specs.DescentContract.{Read, Took, Reads}
 use Rattle.layout_laws.specs.Writes.{sets-append}
 use Rattle.parse.specs.Lines.{line_of}
 
@@ -154,9 +154,6 @@ module _ (t : Bytes) where
   }
 
   module _ (at o n : ℕ) (last : Bool) (out : List ℕ) (s : Lining t at o n last out) where
-    pub lining-place : length t ≤ 4096 → Place t at o
-    lining-place h = record { short = h; within = s.within; behind = s.behind }
-
     end-left : length t ≤ at → read_script operators t ≡ done s.lines
     unfolding read_lines
     end-left h =
@@ -260,4 +257,4 @@ unfolding Reads Took
 lining-falls t at o old new l s =
     let r = s (length t - at + 1) (omega arith) in let f = r.far in let w = r.within in omega arith
 
-pub ruleset laws = (rules, lining-falls, closing-not, closing_so, lining-none, lining-place, parsed-good, parsed-bad, lining-bad, lining-more)
+pub ruleset laws = (rules, lining-falls, closing-not, closing_so, lining-none, parsed-good, parsed-bad, lining-bad, lining-more)

@@ -4,7 +4,7 @@
 ghost use Rattle.std.specs.Prelude.{◌≡◌, ◌+◌, ◌≤◌, ◌<◌, length};
 ghost use Rattle.atlite.specs.Script.{count_srcs};
 ghost use Rattle.words.specs.Wide.{wide_src, wide_srcs};
-ghost use Rattle.lexemes.specs.DescentContract.{Place, Follow, Argued, Reads, Lists, exprs, spaceds, ones, one_words, mids, mid_words, brackets, forms, sends, send_words, args_from};
+ghost use Rattle.lexemes.specs.DescentContract.{Follow, Argued, Reads, Lists, exprs, spaceds, ones, one_words, mids, mid_words, brackets, forms, sends, send_words, args_from};
 
 mod literals;
 
@@ -16,7 +16,7 @@ use lexemes::source::Source;
 #[cycle(expressions)]
 #[tactic(auto, using(crate::specs::Cycle::expr_laws))]
 pub fn expr(s: &Source, at: usize, out: &mut [u64; 4096], o: usize) -> Option<Step>
-    requires { Place s.now.text.now at o }
+    requires { (o ≤ at) × (at ≤ length s.now.text.now) }
     ensures { Reads wide_src (exprs s.now.text.now) s.now.text.now at o out.old out.new result }
 {
     if scan::starts(s.text, at, b"(") {
@@ -29,7 +29,7 @@ pub fn expr(s: &Source, at: usize, out: &mut [u64; 4096], o: usize) -> Option<St
 #[cycle(expressions)]
 #[tactic(auto, using(crate::specs::Cycle::spaced_laws))]
 pub fn spaced(s: &Source, at: usize, out: &mut [u64; 4096], o: usize) -> Option<Step>
-    requires { Place s.now.text.now at o }
+    requires { (o ≤ at) × (at ≤ length s.now.text.now) }
     ensures { Reads wide_src (spaceds s.now.text.now) s.now.text.now at o out.old out.new result }
 {
     if scan::starts(s.text, at, b" ") {
@@ -42,7 +42,7 @@ pub fn spaced(s: &Source, at: usize, out: &mut [u64; 4096], o: usize) -> Option<
 #[cycle(expressions)]
 #[tactic(auto, using(crate::specs::Cycle::bracket_laws))]
 fn bracket(s: &Source, at: usize, out: &mut [u64; 4096], o: usize) -> Option<Step>
-    requires { Place s.now.text.now at (o + 1) }
+    requires { (o < at) × (at ≤ length s.now.text.now) }
     ensures { Reads wide_src (brackets s.now.text.now) s.now.text.now at o out.old out.new result }
 {
     let end = scan::run_end(s.text, at);
@@ -54,7 +54,7 @@ fn bracket(s: &Source, at: usize, out: &mut [u64; 4096], o: usize) -> Option<Ste
 #[cycle(expressions)]
 #[tactic(auto, using(crate::specs::Cycle::form_laws))]
 fn form(s: &Source, at: usize, out: &mut [u64; 4096], o: usize, k: u8) -> Option<Step>
-    requires { Place s.now.text.now at (o + 1) }
+    requires { (o < at) × (at ≤ length s.now.text.now) }
     ensures { Reads wide_src (forms k s.now.text.now) s.now.text.now at o out.old out.new result }
 {
     let named = kinds::operator(k as u32);
@@ -94,7 +94,7 @@ fn parts(
     w: u64,
     n: u32,
 ) -> Option<Step>
-    requires { Place s.now.text.now at p × (o < 4096) }
+    requires { (p ≤ at) × (at ≤ length s.now.text.now) × (o < 4096) }
     ensures { Follow w n s.now.text.now at p out.old o out.new result }
 {
     if n == 0 {
@@ -108,7 +108,7 @@ fn parts(
 #[cycle(expressions)]
 #[tactic(auto, using(crate::specs::Cycle::one_laws))]
 pub fn one(s: &Source, at: usize, out: &mut [u64; 4096], o: usize, w: u64) -> Option<Step>
-    requires { Place s.now.text.now at (o + 1) }
+    requires { (o < at) × (at ≤ length s.now.text.now) }
     ensures { Reads (one_words w) (ones s.now.text.now) s.now.text.now at o out.old out.new result }
 {
     parts(s, at, out, o, o + 1, w, 1)
@@ -118,7 +118,7 @@ pub fn one(s: &Source, at: usize, out: &mut [u64; 4096], o: usize, w: u64) -> Op
 #[cycle(expressions)]
 #[tactic(auto, using(crate::specs::Cycle::between_laws))]
 fn between(s: &Source, at: usize, out: &mut [u64; 4096], o: usize, k: u8, n: u32) -> Option<Step>
-    requires { Place s.now.text.now at (o + 1) }
+    requires { (o < at) × (at ≤ length s.now.text.now) }
     ensures { Reads (mid_words k n) (mids n s.now.text.now) s.now.text.now at o out.old out.new result }
 {
     let e = spaced(s, at, out, o + 1)?;
@@ -130,7 +130,7 @@ fn between(s: &Source, at: usize, out: &mut [u64; 4096], o: usize, k: u8, n: u32
 #[cycle(expressions)]
 #[tactic(auto, using(crate::specs::Cycle::let_in_laws))]
 fn let_in(s: &Source, at: usize, out: &mut [u64; 4096], o: usize) -> Option<Step>
-    requires { Place s.now.text.now at (o + 1) }
+    requires { (o < at) × (at ≤ length s.now.text.now) }
     ensures { Reads wide_src (forms 11 s.now.text.now) s.now.text.now at o out.old out.new result }
 {
     let x = s.spaced_word(at)?;
@@ -141,7 +141,7 @@ fn let_in(s: &Source, at: usize, out: &mut [u64; 4096], o: usize) -> Option<Step
 #[cycle(expressions)]
 #[tactic(auto, using(crate::specs::Cycle::future_laws))]
 fn future(s: &Source, at: usize, out: &mut [u64; 4096], o: usize) -> Option<Step>
-    requires { Place s.now.text.now at (o + 1) }
+    requires { (o < at) × (at ≤ length s.now.text.now) }
     ensures { Reads wide_src (forms 12 s.now.text.now) s.now.text.now at o out.old out.new result }
 {
     let x = s.spaced_word(at)?;
@@ -153,7 +153,7 @@ fn future(s: &Source, at: usize, out: &mut [u64; 4096], o: usize) -> Option<Step
 #[cycle(expressions)]
 #[tactic(auto, using(crate::specs::Cycle::func_laws))]
 fn func(s: &Source, at: usize, out: &mut [u64; 4096], o: usize) -> Option<Step>
-    requires { Place s.now.text.now at (o + 1) }
+    requires { (o < at) × (at ≤ length s.now.text.now) }
     ensures { Reads wide_src (forms 65 s.now.text.now) s.now.text.now at o out.old out.new result }
 {
     let x = s.spaced_word(at)?;
@@ -164,7 +164,7 @@ fn func(s: &Source, at: usize, out: &mut [u64; 4096], o: usize) -> Option<Step>
 #[cycle(expressions)]
 #[tactic(auto, using(crate::specs::Cycle::message_laws))]
 fn message(s: &Source, at: usize, out: &mut [u64; 4096], o: usize, k: u8) -> Option<Step>
-    requires { Place s.now.text.now at (o + 1) }
+    requires { (o < at) × (at ≤ length s.now.text.now) }
     ensures { Reads (send_words k) (sends s.now.text.now) s.now.text.now at o out.old out.new result }
 {
     let e = spaced(s, at, out, o + 1)?;
@@ -184,7 +184,7 @@ fn arguments(
     k: u8,
     m: usize,
 ) -> Option<Step>
-    requires { Place s.now.text.now at p × (o < 4096) × (m < 4096) }
+    requires { (p ≤ at) × (at ≤ length s.now.text.now) × (o < 4096) × (m < 4096) }
     ensures { Argued k m s.now.text.now at p out.old o out.new result }
 {
     let a = args(s, at, out, p, 0)?;
@@ -195,7 +195,7 @@ fn arguments(
 #[cycle(expressions)]
 #[tactic(auto, using(crate::specs::Cycle::args_laws))]
 fn args(s: &Source, at: usize, out: &mut [u64; 4096], o: usize, b: usize) -> Option<Listed>
-    requires { Place s.now.text.now at o × (b ≤ 3) }
+    requires { (o ≤ at) × (at ≤ length s.now.text.now) × (b ≤ 3) }
     ensures { Lists wide_srcs count_srcs 3 b (args_from b s.now.text.now) s.now.text.now at o out.old out.new result }
 {
     if scan::starts(s.text, at, b")") {

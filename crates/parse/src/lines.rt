@@ -1,9 +1,9 @@
 // Lines: an expression or a definition, with the end of the line; and all lines of a text.
-ghost use Rattle.std.specs.Prelude.{◌≡◌, ◌+◌, ◌≤◌, length};
+ghost use Rattle.std.specs.Prelude.{◌≤◌, ◌<◌, length};
 ghost use Rattle.words.specs.Wide.{wide_line};
 ghost use Rattle.parse.specs.TextLaws.{Closing, Parses};
 ghost use Rattle.parse.specs.Lines.{LineEnd, definitions, sentences, line_of};
-ghost use Rattle.lexemes.specs.DescentContract.{Place, Reads};
+ghost use Rattle.lexemes.specs.DescentContract.{Reads};
 
 use crate::Parsed;
 use crate::forms::{expr, one};
@@ -25,7 +25,7 @@ fn newline(s: &Source, at: usize, p: usize) -> Option<Step>
 // A definition behind its opening.
 #[tactic(auto, using(crate::specs::Lines::laws))]
 fn definition(s: &Source, at: usize, out: &mut [u64; 4096], o: usize) -> Option<Step>
-    requires { Place s.now.text.now at (o + 1) }
+    requires { (o < at) × (at ≤ length s.now.text.now) }
     ensures { Reads wide_line (definitions s.now.text.now) s.now.text.now at o out.old out.new result }
 {
     let x = s.word_at(at)?;
@@ -36,7 +36,7 @@ fn definition(s: &Source, at: usize, out: &mut [u64; 4096], o: usize) -> Option<
 // An expression as a line.
 #[tactic(auto, using(crate::specs::Lines::laws))]
 fn sentence(s: &Source, at: usize, out: &mut [u64; 4096], o: usize) -> Option<Step>
-    requires { Place s.now.text.now at o }
+    requires { (o ≤ at) × (at ≤ length s.now.text.now) }
     ensures { Reads wide_line (sentences s.now.text.now) s.now.text.now at o out.old out.new result }
 {
     let e = expr(s, at, out, o)?;
@@ -46,7 +46,7 @@ fn sentence(s: &Source, at: usize, out: &mut [u64; 4096], o: usize) -> Option<St
 // A line.
 #[tactic(auto, using(crate::specs::Lines::laws))]
 fn line(s: &Source, at: usize, out: &mut [u64; 4096], o: usize) -> Option<Step>
-    requires { Place s.now.text.now at o }
+    requires { (o ≤ at) × (at ≤ length s.now.text.now) }
     ensures { Reads wide_line (line_of s.now.text.now) s.now.text.now at o out.old out.new result }
 {
     if scan::starts(s.text, at, b"(def ") {

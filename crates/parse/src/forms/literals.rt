@@ -2,7 +2,7 @@
 ghost use Rattle.std.specs.Prelude.{◌≡◌, ◌+◌, ◌≤◌, ◌<◌, length};
 ghost use Rattle.atlite.specs.Table.{count_fields, count_methods};
 ghost use Rattle.words.specs.Wide.{wide_fields, wide_methods};
-ghost use Rattle.lexemes.specs.DescentContract.{Place, Ended, Reads, Lists, literals, literal_words, fields_from, field_at, methods_from, method_at};
+ghost use Rattle.lexemes.specs.DescentContract.{Ended, Reads, Lists, literals, literal_words, fields_from, field_at, methods_from, method_at};
 
 use crate::forms::one;
 use lexemes::scratch::{Listed, Step, close, head, literal_head};
@@ -12,7 +12,7 @@ use lexemes::source::Source;
 #[cycle(expressions)]
 #[tactic(auto, using(crate::specs::Cycle::literal_laws))]
 pub fn literal(s: &Source, at: usize, out: &mut [u64; 4096], o: usize, k: u8) -> Option<Step>
-    requires { Place s.now.text.now at (o + 1) }
+    requires { (o < at) × (at ≤ length s.now.text.now) }
     ensures { Reads (literal_words k) (literals s.now.text.now) s.now.text.now at o out.old out.new result }
 {
     let f = fields(s, at, out, o + 1, 0)?;
@@ -31,7 +31,7 @@ fn bodies(
     k: u8,
     c: usize,
 ) -> Option<Step>
-    requires { Place s.now.text.now at p × (o < 4096) × (c ≤ 4) }
+    requires { (p ≤ at) × (at ≤ length s.now.text.now) × (o < 4096) × (c ≤ 4) }
     ensures { Ended k c s.now.text.now at p out.old o out.new result }
 {
     let m = methods(s, at, out, p, 0)?;
@@ -42,7 +42,7 @@ fn bodies(
 #[cycle(expressions)]
 #[tactic(auto, using(crate::specs::Cycle::fields_laws))]
 fn fields(s: &Source, at: usize, out: &mut [u64; 4096], o: usize, b: usize) -> Option<Listed>
-    requires { Place s.now.text.now at o × (b ≤ 4) }
+    requires { (o ≤ at) × (at ≤ length s.now.text.now) × (b ≤ 4) }
     ensures { Lists wide_fields count_fields 4 b (fields_from b s.now.text.now) s.now.text.now at o out.old out.new result }
 {
     let end = Some(Listed {
@@ -63,7 +63,7 @@ fn fields(s: &Source, at: usize, out: &mut [u64; 4096], o: usize, b: usize) -> O
 #[cycle(expressions)]
 #[tactic(auto, using(crate::specs::Cycle::field_laws))]
 fn field(s: &Source, at: usize, out: &mut [u64; 4096], o: usize, b: usize) -> Option<Listed>
-    requires { Place s.now.text.now at (o + 1) × (b < 4) }
+    requires { (o < at) × (at ≤ length s.now.text.now) × (b < 4) }
     ensures { Lists wide_fields count_fields 4 b (field_at b s.now.text.now) s.now.text.now at o out.old out.new result }
 {
     let f = s.word_at(at)?;
@@ -75,7 +75,7 @@ fn field(s: &Source, at: usize, out: &mut [u64; 4096], o: usize, b: usize) -> Op
 #[cycle(expressions)]
 #[tactic(auto, using(crate::specs::Cycle::methods_laws))]
 fn methods(s: &Source, at: usize, out: &mut [u64; 4096], o: usize, b: usize) -> Option<Listed>
-    requires { Place s.now.text.now at o × (b ≤ 4) }
+    requires { (o ≤ at) × (at ≤ length s.now.text.now) × (b ≤ 4) }
     ensures { Lists wide_methods count_methods 4 b (methods_from b s.now.text.now) s.now.text.now at o out.old out.new result }
 {
     let end = Some(Listed {
@@ -95,7 +95,7 @@ fn methods(s: &Source, at: usize, out: &mut [u64; 4096], o: usize, b: usize) -> 
 #[cycle(expressions)]
 #[tactic(auto, using(crate::specs::Cycle::method_laws))]
 fn method(s: &Source, at: usize, out: &mut [u64; 4096], o: usize, b: usize) -> Option<Listed>
-    requires { Place s.now.text.now at (o + 1) × (b < 4) }
+    requires { (o < at) × (at ≤ length s.now.text.now) × (b < 4) }
     ensures { Lists wide_methods count_methods 4 b (method_at b s.now.text.now) s.now.text.now at o out.old out.new result }
 {
     let m = s.method_head(at)?;
