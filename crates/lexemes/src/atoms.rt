@@ -9,8 +9,9 @@ ghost use Rattle.lexemes.specs.Atoms.{NumberIs};
 ghost use Rattle.lexemes.specs.DescentContract.{Took};
 
 use crate::numbers::decimal;
-use crate::scratch::{NULL, Step, THIS, head, number_word, put};
+use crate::scratch::{Step, head, number_word, put};
 use crate::source::Source;
+use scan::kinds;
 
 impl Source<'_> {
     // An atom: a number, `null`, `this` or a word.
@@ -36,12 +37,12 @@ impl Source<'_> {
         ensures { Took wide_src self.now.text.now at o out.old out.new (read_atom (dictionary self.now.text.now) (drop at self.now.text.now)) result }
     {
         if scan::named(self.text, at, end, b"null") {
-            return put(out, o, NULL, end, o + 1);
+            return put(out, o, u64::from(kinds::NULL), end, o + 1);
         }
         if scan::named(self.text, at, end, b"this") {
-            return put(out, o, THIS, end, o + 1);
+            return put(out, o, u64::from(kinds::THIS), end, o + 1);
         }
         let x = self.word(at, end)?;
-        put(out, o, head(6, x.number), x.end, o + 1)
+        put(out, o, head(kinds::THIS, x.number), x.end, o + 1)
     }
 }

@@ -13,11 +13,6 @@ pub const LIMIT: usize = wide::LIMIT as usize;
 
 const DIGIT: usize = wide::DIGIT as usize;
 
-// The words of `null` and `this`.
-pub const NULL: u64 = 1;
-
-pub const THIS: u64 = 6;
-
 // Where reading goes on in the text, and writing in the words.
 #[derive(Clone, Copy)]
 pub struct Step {
@@ -66,14 +61,14 @@ pub fn head(k: u8, x: usize) -> u64
     requires { x < wide_limit }
     ensures { result ≡ wide k x }
 {
-    (k as u64) + wide::KINDS * (x as u64)
+    u64::from(k) + wide::KINDS * (x as u64)
 }
 
 pub fn head2(k: u8, x: usize, y: usize) -> u64
     requires { (x < wide_limit) × (y < wide_limit) }
     ensures { result ≡ wide k (pair x y) }
 {
-    (k as u64) + wide::KINDS * ((x + LIMIT * y) as u64)
+    u64::from(k) + wide::KINDS * ((x + LIMIT * y) as u64)
 }
 
 pub fn number_word(n: usize) -> u64
@@ -94,5 +89,5 @@ pub fn literal_head(k: u8, c: usize, d: usize) -> u64
     requires { (c ≤ 4) × (d ≤ 4) }
     ensures { result ≡ wide k (c + digit_limit * d) }
 {
-    (k as u64) + wide::KINDS * ((c + DIGIT * d) as u64)
+    u64::from(k) + wide::KINDS * ((c + DIGIT * d) as u64)
 }

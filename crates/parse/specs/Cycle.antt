@@ -4,7 +4,7 @@ use Rattle.lexemes.specs.NameLaws.{starts-room, name-small, name-far, name-withi
 use Rattle.lexemes.specs.DescentLaws.{spaced-so, spaced-not, mid-word-bad, mid-first-bad, send-word-bad, send-first-bad, step-within, step-far, step-short}
 use Rattle.parse.specs.PartLaws.{parts_none, parts-bad, parts_more, one-part, mid-part, send-part}
 use Rattle.parse.specs.ArgumentLaws.{args-close, args-full, args-bad, args_more, argued-done, argued-bad, args-small}
-use Rattle.parse.specs.FormLaws.{expr-open, expr-atom, bracket-form, form-bare, form-field, form-resolve, form-seq, form-when, form-call, form-message, form-ask, form-object, form-isolate, form-actor, form-own, let-bad, let-done, fn-bad, fn-done, future-bad, future-later-bad, future-done}
+use Rattle.parse.specs.FormLaws.{expr-open, expr-atom, bracket-form, bracket-none, form-bare, form-field, form-resolve, form-seq, form-when, form-call, form-message, form-ask, form-object, form-isolate, form-actor, form-own, let-bad, let-done, fn-bad, fn-done, future-bad, future-later-bad, future-done}
 use Rattle.parse.specs.LiteralLaws.{list-within, list-far, list-short, list-few, fields-full, fields-more, fields-none, field-bad, field-value-bad, field-done, literal-bad, literal-done, ended-done, ended-bad}
 use Rattle.parse.specs.MethodLaws.{methods-full, methods-more, methods-none, method-bad, method-value-bad, method-done, header-far, header-within}
 
@@ -18,7 +18,7 @@ pub ruleset args_laws = (step-within, step-far, step-short, args-close, args-ful
 
 pub ruleset expr_laws = (expr-open, expr-atom, starts-room)
 
-pub ruleset bracket_laws = (bracket-form)
+pub ruleset bracket_laws = (bracket-form, bracket-none)
 
 pub ruleset form_laws = (form-bare, form-field, form-resolve, form-seq, form-when, form-call, form-message, form-ask, form-object, form-isolate, form-actor, form-own, field-counts)
 

@@ -19,11 +19,11 @@ use Rattle.layout.specs.Terms.{kind_number, label_number}
 use Rattle.layout.specs.Tables.{src_kind}
 use Rattle.decoding.specs.Kinds.{Words, kind_in, row_in}
 use Rattle.words.specs.Wide.{wide, pair, wide_payload, wide_src, wide_srcs}
-use Rattle.scan.specs.Runs.{Run, Starts}
+use Rattle.scan.specs.Runs.{Run, Starts, Kinded}
 use Rattle.lexemes.specs.declared.names.Name.{Name}
 use Rattle.lexemes.specs.declared.scratch.Step.{Step}
 use Rattle.lexemes.specs.Atoms.{SpacedName}
-use Rattle.lexemes.specs.Operators.{operator_of, operator-kind, is-bare, is-naming, own_kinds, Unformed, no-operator}
+use Rattle.lexemes.specs.Operators.{operator_of, operator-kind, is-bare, is-naming, own_kinds, Unformed, no-operator, no-kind}
 use Rattle.lexemes.specs.DescentContract.{Took, Reads, exprs, brackets, form_by, forms, read_one, ones, one_words, Parts, read_parts, parts, part_words, head_words, read_mid, mids, mid_words, Follow, read_args, read_send, sends, send_words, read_literal, literals, literal_words}
 use Rattle.lexemes.specs.NameLaws.{starts-room, spaced-read, spaced-refused}
 use Rattle.lexemes.specs.DescentLaws.{shift, bind_assoc, under, took-under}
@@ -81,11 +81,15 @@ module _ (t : Bytes) (at e o k : ℕ) (old new : List ℕ) (a : Option Step) whe
       go none = refl
       go (some q) = refl
 
-  pub bracket-form : Run t at e → k ≡ kind_in (slice at e t) → Reads wide_src (forms k t) t e o old new a → Reads wide_src (brackets t) t at o old new a
-  unfolding Reads
+  pub bracket-form : Run t at e → Kinded (slice at e t) (Some k) → Reads wide_src (forms k t) t e o old new a → Reads wide_src (brackets t) t at o old new a
+  unfolding Reads Kinded
   bracket-form h p s n l =
       let f = h.from in
-      shift Src wide_src t at o old new e _ _ a f (operator-form n h p) (s n (omega arith))
+      shift Src wide_src t at o old new e _ _ a f (operator-form n h p.0) (s n (omega arith))
+
+  pub bracket-none : Run t at e → Kinded (slice at e t) None → Reads wide_src (brackets t) t at o old new None
+  unfolding Reads Took Kinded brackets or_refuse
+  bracket-none h p n l = rw (h.is, operator-kind (slice at e t), ← p, no-kind)
 
 -- ---- forms by their shapes
 unfoldable part_srcs : (n : ℕ) → Parts n → Srcs

@@ -11,6 +11,7 @@ mod literals;
 use crate::forms::literals::literal;
 use lexemes::scratch::{Listed, Step, close, head, head2, put};
 use lexemes::source::Source;
+use scan::kinds as kind;
 
 // An expression.
 #[cycle(expressions)]
@@ -46,7 +47,7 @@ fn bracket(s: &Source, at: usize, out: &mut [u64; 4096], o: usize) -> Option<Ste
     ensures { Reads wide_src (brackets s.now.text.now) s.now.text.now at o out.old out.new result }
 {
     let end = scan::run_end(s.text, at);
-    let k = scan::keyword(s.text, at, end);
+    let k = scan::keyword(s.text, at, end)?;
     form(s, end, out, o, k)
 }
 
@@ -57,27 +58,28 @@ fn form(s: &Source, at: usize, out: &mut [u64; 4096], o: usize, k: u8) -> Option
     requires { (o < at) × (at ≤ length s.now.text.now) }
     ensures { Reads wide_src (forms k s.now.text.now) s.now.text.now at o out.old out.new result }
 {
-    let named = kinds::operator(k as u32);
-    let n = kinds::operands(k as u32);
+    let row = u32::from(k);
+    let named = kinds::operator(row);
+    let n = kinds::operands(row);
     if named == 1 {
-        return parts(s, at, out, o, o + 1, k as u64, n);
+        return parts(s, at, out, o, o + 1, u64::from(k), n);
     }
     if named == 2 {
         return between(s, at, out, o, k, n - 1);
     }
     match k {
-        11 => let_in(s, at, out, o),
-        12 => future(s, at, out, o),
-        13 => message(s, at, out, o, k),
-        14 => message(s, at, out, o, k),
-        15 => literal(s, at, out, o, k),
-        16 => literal(s, at, out, o, k),
-        17 => literal(s, at, out, o, k),
-        64 => message(s, at, out, o, k),
-        65 => func(s, at, out, o),
-        66 => parts(s, at, out, o, o + 1, k as u64, 2),
-        67 => between(s, at, out, o, k, 1),
-        68 => parts(s, at, out, o, o + 1, k as u64, 2),
+        kind::LET => let_in(s, at, out, o),
+        kind::FUTURE => future(s, at, out, o),
+        kind::CALL => message(s, at, out, o, k),
+        kind::SEND => message(s, at, out, o, k),
+        kind::OBJECT => literal(s, at, out, o, k),
+        kind::ISOLATE => literal(s, at, out, o, k),
+        kind::ACTOR => literal(s, at, out, o, k),
+        kind::ASK => message(s, at, out, o, k),
+        kind::FN => func(s, at, out, o),
+        kind::RESOLVE => parts(s, at, out, o, o + 1, u64::from(k), 2),
+        kind::WHEN => between(s, at, out, o, k, 1),
+        kind::SEQ => parts(s, at, out, o, o + 1, u64::from(k), 2),
         _ => None,
     }
 }
@@ -134,7 +136,7 @@ fn let_in(s: &Source, at: usize, out: &mut [u64; 4096], o: usize) -> Option<Step
     ensures { Reads wide_src (forms 11 s.now.text.now) s.now.text.now at o out.old out.new result }
 {
     let x = s.spaced_word(at)?;
-    parts(s, x.end, out, o, o + 1, head(11, x.number), 2)
+    parts(s, x.end, out, o, o + 1, head(kind::LET, x.number), 2)
 }
 
 // Two words, and an expression in their scope.
@@ -146,7 +148,7 @@ fn future(s: &Source, at: usize, out: &mut [u64; 4096], o: usize) -> Option<Step
 {
     let x = s.spaced_word(at)?;
     let y = s.spaced_word(x.end)?;
-    one(s, y.end, out, o, head2(12, x.number, y.number))
+    one(s, y.end, out, o, head2(kind::FUTURE, x.number, y.number))
 }
 
 // A word, and an expression in its scope.
@@ -157,7 +159,7 @@ fn func(s: &Source, at: usize, out: &mut [u64; 4096], o: usize) -> Option<Step>
     ensures { Reads wide_src (forms 65 s.now.text.now) s.now.text.now at o out.old out.new result }
 {
     let x = s.spaced_word(at)?;
-    one(s, x.end, out, o, head(65, x.number))
+    one(s, x.end, out, o, head(kind::FN, x.number))
 }
 
 // Of a call, a send or an ask: who is asked, the name of the message, and its arguments.

@@ -9,6 +9,7 @@ use crate::Parsed;
 use crate::forms::{expr, one};
 use lexemes::scratch::{Step, head};
 use lexemes::source::Source;
+use scan::kinds as kind;
 
 // The end of a line.
 #[tactic(auto, using(crate::specs::Lines::laws))]
@@ -29,7 +30,7 @@ fn definition(s: &Source, at: usize, out: &mut [u64; 4096], o: usize) -> Option<
     ensures { Reads wide_line (definitions s.now.text.now) s.now.text.now at o out.old out.new result }
 {
     let x = s.word_at(at)?;
-    let e = one(s, x.end, out, o, head(130, x.number))?;
+    let e = one(s, x.end, out, o, head(kind::DEF, x.number))?;
     newline(s, e.at, e.out)
 }
 

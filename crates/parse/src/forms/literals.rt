@@ -7,6 +7,7 @@ ghost use Rattle.lexemes.specs.DescentContract.{Ended, Reads, Lists, literals, l
 use crate::forms::one;
 use lexemes::scratch::{Listed, Step, close, head, literal_head};
 use lexemes::source::Source;
+use scan::kinds as kind;
 
 // Fields and methods.
 #[cycle(expressions)]
@@ -67,7 +68,7 @@ fn field(s: &Source, at: usize, out: &mut [u64; 4096], o: usize, b: usize) -> Op
     ensures { Lists wide_fields count_fields 4 b (field_at b s.now.text.now) s.now.text.now at o out.old out.new result }
 {
     let f = s.word_at(at)?;
-    let e = one(s, f.end, out, o, head(128, f.number))?;
+    let e = one(s, f.end, out, o, head(kind::FIELD, f.number))?;
     fields(s, e.at, out, e.out, b + 1)
 }
 
