@@ -1,9 +1,9 @@
 -- Atoms: one word each, in its place. Assumes nothing.
-use Rattle.std.specs.Prelude.{◌≡◌, Bool, true, false, List, [], ◌∷◌, ℕ, ◌+◌, ◌≤◌, ◌<◌, length, drop, set, if◌then◌else◌}
+use Rattle.std.specs.Prelude.{◌≡◌, Bool, true, false, List, [], ◌∷◌, ℕ, ◌+◌, ◌-◌, ◌≤◌, ◌<◌, length, take, drop, set, Option, Some, None}
 use Rattle.std.proofs.Math.Path.{refl}
 use Rattle.std.proofs.Common.{sym, ◌∙◌, arith, rules}
 use Rattle.std.proofs.lemmas.Bool.{false≢true}
-use Rattle.std.proofs.Math.Option.{Option, none, some}
+use Rattle.std.proofs.Math.Option.{Option as Maybe, none, some}
 use Rattle.std.proofs.Math.Seq.{slice, slice_empty, length-slice}
 use Rattle.atlite.specs.Base.{Base, Result, done, refused, require, or_refuse, ◌>>=◌, ◌>>◌, bytes, same_bytes, all}
 use Rattle.atlite.specs.Lexicon.{Bytes, is_digit, is_word, letter_first, is_number, decimal, number_of, dictionary}
@@ -13,15 +13,12 @@ use Rattle.atlite_laws.specs.Facts.{same_true, same-false-sym}
 use Rattle.atlite.specs.Term.{top}
 use Rattle.words.specs.Wide.{wide, wide_src}
 use Rattle.scan.specs.Runs.{Run}
-use Rattle.lexemes.specs.declared.numbers.Number.{Number as Numbers}
-use Rattle.lexemes.specs.declared.numbers.Number.TheVariants.{Is, Not}
+use Rattle.scan.specs.Keywords.{slice-take}
 use Rattle.lexemes.specs.declared.names.Name.{Name}
-use Rattle.lexemes.specs.declared.names.Name.TheVariants.{Word, NoWord}
 use Rattle.lexemes.specs.declared.scratch.Step.{Step}
-use Rattle.lexemes.specs.declared.scratch.Step.TheVariants.{Done, Bad}
 use Rattle.lexemes.specs.Atoms.{NumberIs, Named, NameOf}
 use Rattle.lexemes.specs.NameLaws.{name-small}
-use Rattle.lexemes.specs.DescentContract.{Took}
+use Rattle.lexemes.specs.DescentContract.{Took, stepped}
 
 number-filled : (w : Bytes) → is_number w ≡ true → 0 < length w
 unfolding is_number
@@ -50,7 +47,7 @@ name-atom : (ws : List Bytes) (i : Bytes) → is_number (item i).0 ≡ false →
 unfolding read_atom read_word atom require or_refuse bytes
 name-atom ws i p q s = rw (p, q, s) (go (is_word (item i).0) (number_of ws (item i).0))
   where
-    go : (b : Bool) (o : Option ℕ)
+    go : (b : Bool) (o : Maybe ℕ)
         → ◌>>=◌ {B = Src × Bytes} (require 2 b >> (or_refuse 2 o >>= λ x. done (Src.var x))) (λ e. done (e, (item i).1))
         ≡ ((require 2 b >> (◌>>=◌ {B = ℕ × Bytes} (or_refuse 2 o) (λ x. done (x, (item i).1)))) >>= as_var)
     go true (some x) = refl
@@ -63,8 +60,8 @@ module _ (t : Bytes) (at o e : ℕ) (old new : List ℕ) (h : Run t at e) where
   atom-run ws = rw (h.is, h.rest)
 
   -- one word, where the run is not empty
-  one_word : (ws : List Bytes) (d : Src) (w : ℕ) (a : Step) → at < e → atom ws (slice at e t) ≡ done d → wide_src d ≡ w ∷ []
-      → a ≡ Done e (o + 1) → new ≡ set old o w → Took wide_src t at o old new (read_atom ws (drop at t)) a
+  one_word : (ws : List Bytes) (d : Src) (w : ℕ) (a : Option Step) → at < e → atom ws (slice at e t) ≡ done d → wide_src d ≡ w ∷ []
+      → a ≡ stepped e (o + 1) → new ≡ set old o w → Took wide_src t at o old new (read_atom ws (drop at t)) a
   unfolding Took
   one_word ws d w a f p q z u = rw z (record {
     value = d;
@@ -76,30 +73,34 @@ module _ (t : Bytes) (at o e : ℕ) (old new : List ℕ) (h : Run t at e) where
     short = omega arith;
   })
 
-  pub empty-atom : e ≡ at → Took wide_src t at o old new (read_atom (dictionary t) (drop at t)) Bad
+  pub empty-atom : e ≡ at → Took wide_src t at o old new (read_atom (dictionary t) (drop at t)) None
   unfolding Took
   empty-atom k = atom-run (dictionary t) ∙ rw (k, slice_empty at t, none_is (dictionary t))
 
   filled : 0 < length (slice at e t) → at < e
   filled k = omega (arith, length-slice at e t h.within)
 
-  pub number-atom : (d : Numbers) (a : Step) (n w : ℕ) → NumberIs (slice at e t) d → d ≡ Is n → w ≡ wide 2 n → a ≡ Done e (o + 1) → new ≡ set old o w
+  -- the word as the code cuts it out
+  cut : (d : Option ℕ) → NumberIs (take (e - at) (drop at t)) d → NumberIs (slice at e t) d
+  cut d s = rw (slice-take at e t) s
+
+  pub number-atom : (a : Option Step) (n w : ℕ) → NumberIs (take (e - at) (drop at t)) (Some n) → w ≡ wide 2 n → a ≡ stepped e (o + 1) → new ≡ set old o w
       → Took wide_src t at o old new (read_atom (dictionary t) (drop at t)) a
   unfolding NumberIs atom wide_src
-  number-atom d a n w s q v z u =
-      let k = rw q at s in
+  number-atom a n w s v z u =
+      let k = cut (Some n) s in
       one_word (dictionary t) (Src.num (decimal 0 (slice at e t))) w a (filled (number-filled (slice at e t) k.0))
       (rw k.0) (rw (← k.1, ← v)) z u
 
-  module _ (b : NumberIs (slice at e t) Not) where
-    pub null-atom : (r : Bool) (a : Step) → r ≡ same_bytes (110 ∷ 117 ∷ 108 ∷ 108 ∷ []) (slice at e t) → r ≡ true → a ≡ Done e (o + 1)
+  module _ (b : NumberIs (slice at e t) None) where
+    pub null-atom : (r : Bool) (a : Option Step) → r ≡ same_bytes (110 ∷ 117 ∷ 108 ∷ 108 ∷ []) (slice at e t) → r ≡ true → a ≡ stepped e (o + 1)
         → new ≡ set old o 1 → Took wide_src t at o old new (read_atom (dictionary t) (drop at t)) a
     unfolding atom wide_src is_number Base
     null-atom r a p q z u =
         let y = same_true (110 ∷ 117 ∷ 108 ∷ 108 ∷ []) (slice at e t) (sym p ∙ q) in
         one_word (dictionary t) Src.null 1 a (filled (rw (← y) (omega arith))) (rw (← y) (null_is (dictionary t))) refl z u
 
-    pub this-atom : (r : Bool) (a : Step) → r ≡ same_bytes (116 ∷ 104 ∷ 105 ∷ 115 ∷ []) (slice at e t) → r ≡ true → a ≡ Done e (o + 1)
+    pub this-atom : (r : Bool) (a : Option Step) → r ≡ same_bytes (116 ∷ 104 ∷ 105 ∷ 115 ∷ []) (slice at e t) → r ≡ true → a ≡ stepped e (o + 1)
         → new ≡ set old o 6 → Took wide_src t at o old new (read_atom (dictionary t) (drop at t)) a
     unfolding atom wide_src is_number Base
     this-atom r a p q z u =
@@ -113,14 +114,13 @@ module _ (t : Bytes) (at o e : ℕ) (old new : List ℕ) (h : Run t at e) where
       by_name = name-atom (dictionary t) (drop at t) (rw h.is b)
           (rw h.is (same-false-sym _ (slice at e t) (sym p ∙ q))) (rw h.is (same-false-sym _ (slice at e t) (sym v ∙ x)))
 
-      pub var-atom : (c : Name) (a : Step) (y i w : ℕ) → NameOf t at c → c ≡ Word y i → w ≡ wide 6 y → a ≡ Done i (o + 1) → new ≡ set old o w
+      pub var-atom : (x : Name) (a : Option Step) (w : ℕ) → NameOf t at (Some x) → w ≡ wide 6 x.number → a ≡ stepped x.end (o + 1) → new ≡ set old o w
           → Took wide_src t at o old new (read_atom (dictionary t) (drop at t)) a
       unfolding NameOf Named Took wide_src
-      var-atom c a y i w n d l z u =
-          let k = rw d at n in
+      var-atom x a w k l z u =
           let f = k.far in
           rw z (record {
-            value = Src.var y;
+            value = Src.var x.number;
             is = by_name ∙ rw k.is;
             far = k.far;
             within = k.within;
@@ -129,15 +129,15 @@ module _ (t : Bytes) (at o e : ℕ) (old new : List ℕ) (h : Run t at e) where
             short = omega arith;
           })
 
-      pub no-atom : (c : Name) → NameOf t at c → c ≡ NoWord → Took wide_src t at o old new (read_atom (dictionary t) (drop at t)) Bad
+      pub no-atom : NameOf t at None → Took wide_src t at o old new (read_atom (dictionary t) (drop at t)) None
       unfolding NameOf Named Took
-      no-atom c n d = let k = rw d at n in by_name ∙ rw k
+      no-atom k = by_name ∙ rw k
 
-pub number_small : (w : Bytes) (d : Numbers) (n : ℕ) → NumberIs w d → d ≡ Is n → n ≤ top
+pub number_small : (w : Bytes) (n : ℕ) → NumberIs w (Some n) → n ≤ top
 unfolding NumberIs
-number_small w d n s q = (rw q at s).2
+number_small w n s = s.2
 
-pub number-not : (w : Bytes) (d : Numbers) → NumberIs w d → d ≡ Not → NumberIs w Not
-number-not w d s q = rw q at s
+pub number-not : (t : Bytes) (at e : ℕ) (d : Option ℕ) → NumberIs (take (e - at) (drop at t)) d → d ≡ None → NumberIs (slice at e t) None
+number-not t at e d s q = rw (slice-take at e t) (rw q at s)
 
 pub ruleset laws = (rules, empty-atom, number-atom, null-atom, this-atom, var-atom, no-atom, name-small, number_small, number-not)

@@ -1,41 +1,26 @@
 -- What the functions over words and numbers of a text answer. Assumes nothing.
-use Rattle.std.specs.Prelude.{◌≡◌, true, false, List, ℕ, ◌-◌, ◌^◌, ◌≤◌, ◌<◌, length, drop}
-use Rattle.std.proofs.Math.Seq.{slice}
+use Rattle.std.specs.Prelude.{◌≡◌, true, false, ℕ, ◌^◌, ◌≤◌, ◌<◌, length, drop, Option, Some, None}
 use Rattle.atlite.specs.Base.{Result, done, refused, all}
 use Rattle.atlite.specs.Lexicon.{Bytes, is_digit, is_number, decimal, dictionary}
 use Rattle.atlite.specs.Reader.{read_word, spaced_word}
 use Rattle.atlite.specs.Term.{top}
-use Rattle.scan.specs.WordNumbers.{Holds}
 use Rattle.words.specs.Wide.{wide_limit}
-use Rattle.lexemes.specs.declared.numbers.Number.{Number as Numbers}
-use Rattle.lexemes.specs.declared.numbers.Number.TheVariants.{Is, Not}
 use Rattle.lexemes.specs.declared.names.Name.{Name}
-use Rattle.lexemes.specs.declared.names.Name.TheVariants.{Word, NoWord}
 
 -- the number of a run of digits
-unfoldable pub Digits : Bytes → Numbers → Type 0
-Digits w (Is n) = (all is_digit w ≡ true) × (n ≡ decimal 0 w)
-Digits w Not = all is_digit w ≡ false
+unfoldable pub Digits : Bytes → Option ℕ → Type 0
+Digits w (Some n) = (all is_digit w ≡ true) × (n ≡ decimal 0 w)
+Digits w None = all is_digit w ≡ false
 
-unfoldable pub NumberIs : Bytes → Numbers → Type 0
-NumberIs w (Is n) = (is_number w ≡ true) × (n ≡ decimal 0 w) × (n ≤ top)
-NumberIs w Not = is_number w ≡ false
+unfoldable pub NumberIs : Bytes → Option ℕ → Type 0
+NumberIs w (Some n) = (is_number w ≡ true) × (n ≡ decimal 0 w) × (n ≤ top)
+NumberIs w None = is_number w ≡ false
 
--- the digits before i make n
-pub record Counted (t : Bytes) (at e i n : ℕ) : Type 0 where
-  pub from : at ≤ i
-  pub within : i ≤ e
-  pub digits : all is_digit (slice at e t) ≡ all is_digit (slice i e t)
-  pub is : decimal 0 (slice at e t) ≡ decimal n (slice i e t)
-  pub fits : n < 10 ^ (i - at)
-
--- the arrays hold the dictionary of a text that is short enough
-pub record Ready (t : Bytes) (low high : List ℕ) (count : ℕ) : Type 0 where
-  pub held : Holds (dictionary t) low high count
-  pub lows : count ≤ length low
-  pub highs : count ≤ length high
-  pub few : count ≤ 2048
-  pub short : length t ≤ 4096
+-- the first i digits of w make n
+pub record Counted (w : Bytes) (i n : ℕ) : Type 0 where
+  pub digits : all is_digit w ≡ all is_digit (drop i w)
+  pub is : decimal 0 w ≡ decimal n (drop i w)
+  pub fits : n < 10 ^ i
 
 -- a name that was read up to i, or a refusal
 pub record NameRead (R : Result (ℕ × Bytes)) (t : Bytes) (at x i : ℕ) : Type 0 where
@@ -44,13 +29,17 @@ pub record NameRead (R : Result (ℕ × Bytes)) (t : Bytes) (at x i : ℕ) : Typ
   pub within : i ≤ length t
   pub small : x < wide_limit
 
-unfoldable pub Named : Result (ℕ × Bytes) → Bytes → ℕ → Name → Type 0
-Named R t at (Word x i) = NameRead R t at x i
-Named R t at NoWord = R ≡ refused 2
+unfoldable pub Named : Result (ℕ × Bytes) → Bytes → ℕ → Option Name → Type 0
+Named R t at (Some x) = NameRead R t at x.number x.end
+Named R t at None = R ≡ refused 2
+
+-- the answer of the name x, read up to i
+abbrev pub worded : ℕ → ℕ → Option Name
+worded x i = Some (record { number = x; end = i })
 
 -- the word at `at`, by its number; the same behind a space
-unfoldable pub NameOf : Bytes → ℕ → Name → Type 0
+unfoldable pub NameOf : Bytes → ℕ → Option Name → Type 0
 NameOf t at r = Named (read_word (dictionary t) (drop at t)) t at r
 
-unfoldable pub SpacedName : Bytes → ℕ → Name → Type 0
+unfoldable pub SpacedName : Bytes → ℕ → Option Name → Type 0
 SpacedName t at r = Named (spaced_word (dictionary t) (drop at t)) t at r

@@ -1,6 +1,6 @@
 -- What the functions of the descent answer: the same as the reader does of the text behind the position, with the wide words of
 -- what was read written in their place. The reader's fuel is any number above what is left of the text. Assumes nothing.
-use Rattle.std.specs.Prelude.{◌≡◌, List, [], ◌∷◌, ◌++◌, ℕ, zero, suc, ◌+◌, ◌-◌, ◌*◌, ◌≤◌, ◌<◌, length, drop, set}
+use Rattle.std.specs.Prelude.{◌≡◌, List, [], ◌∷◌, ◌++◌, ℕ, zero, suc, ◌+◌, ◌-◌, ◌*◌, ◌≤◌, ◌<◌, length, drop, set, Option, Some, None}
 use Rattle.std.proofs.Math.Option.{none, some}
 use Rattle.std.proofs.lemmas.List.Edits.{sets}
 use Rattle.atlite.specs.Base.{Result, done, refused, ◌>>=◌, or_refuse}
@@ -14,17 +14,16 @@ use Rattle.layout.specs.Numbers.{digit_limit}
 use Rattle.lexemes.specs.Headers.{read_header}
 use Rattle.lexemes.specs.Operators.{operator_of}
 use Rattle.lexemes.specs.declared.scratch.Step.{Step}
-use Rattle.lexemes.specs.declared.scratch.Step.TheVariants.{Done, Bad}
 use Rattle.lexemes.specs.declared.scratch.Listed.{Listed}
-use Rattle.lexemes.specs.declared.scratch.Listed.TheVariants.{Items, NoItems}
 
--- where reading and writing go on: no more was written than read, so that all fits
-pub record Place (t : List ℕ) (at o : ℕ) : Type 0 where
-  pub short : length t ≤ 4096
-  pub within : at ≤ length t
-  pub behind : o ≤ at
+-- the answers of a step to i and p, and of a list to there with the count c
+abbrev pub stepped : ℕ → ℕ → Option Step
+stepped i p = Some (record { at = i; out = p })
 
--- what was read from `at` to i, and written from o to p
+abbrev pub listed : ℕ → ℕ → ℕ → Option Listed
+listed i p c = Some (record { at = i; out = p; count = c })
+
+-- what was read from `at` to i, and written from o to p: no more was written than read, so that all fits
 pub record Read {A : Type 0} (enc : A → List ℕ) (t : Bytes) (at o : ℕ) (old new : List ℕ) (R : Result (A × Bytes)) (i p : ℕ) : Type 0 where
   pub value : A
   pub is : R ≡ done (value, drop i t)
@@ -34,11 +33,11 @@ pub record Read {A : Type 0} (enc : A → List ℕ) (t : Bytes) (at o : ℕ) (ol
   pub ends : p ≡ o + length (enc value)
   pub short : p + at ≤ o + i
 
-unfoldable pub Took : {A : Type 0} → (A → List ℕ) → Bytes → ℕ → ℕ → List ℕ → List ℕ → Result (A × Bytes) → Step → Type 0
-Took enc t at o old new R (Done i p) = Read enc t at o old new R i p
-Took enc t at o old new R Bad = R ≡ refused 2
+unfoldable pub Took : {A : Type 0} → (A → List ℕ) → Bytes → ℕ → ℕ → List ℕ → List ℕ → Result (A × Bytes) → Option Step → Type 0
+Took enc t at o old new R (Some s) = Read enc t at o old new R s.at s.out
+Took enc t at o old new R None = R ≡ refused 2
 
-unfoldable pub Reads : {A : Type 0} → (A → List ℕ) → (ℕ → Reading A) → Bytes → ℕ → ℕ → List ℕ → List ℕ → Step → Type 0
+unfoldable pub Reads : {A : Type 0} → (A → List ℕ) → (ℕ → Reading A) → Bytes → ℕ → ℕ → List ℕ → List ℕ → Option Step → Type 0
 Reads enc R t at o old new r = (n : ℕ) → length t - at < n → Took enc t at o old new (R n (drop at t)) r
 
 -- the closing bracket at j, and the head word
@@ -49,9 +48,9 @@ pub record ClosedAt (t : Bytes) (j : ℕ) (old : List ℕ) (o w q : ℕ) (new : 
   pub ends : p ≡ q
   pub wrote : new ≡ set old o w
 
-unfoldable pub Closed : Bytes → ℕ → List ℕ → ℕ → ℕ → ℕ → List ℕ → Step → Type 0
-Closed t j old o w q new (Done i p) = ClosedAt t j old o w q new i p
-Closed t j old o w q new Bad = eat 41 (drop j t) ≡ refused 2
+unfoldable pub Closed : Bytes → ℕ → List ℕ → ℕ → ℕ → ℕ → List ℕ → Option Step → Type 0
+Closed t j old o w q new (Some s) = ClosedAt t j old o w q new s.at s.out
+Closed t j old o w q new None = eat 41 (drop j t) ≡ refused 2
 
 -- ---- the readers by shape, over the reader of expressions
 unfoldable pub exprs : Bytes → ℕ → Reading Src
@@ -145,11 +144,11 @@ pub record ListRead {A : Type 0} (enc : A → List ℕ) (num : A → ℕ) (most 
   pub counted : c ≡ b + num value
   pub few : c ≤ most
 
-unfoldable pub TookList : {A : Type 0} → (A → List ℕ) → (A → ℕ) → ℕ → ℕ → Bytes → ℕ → ℕ → List ℕ → List ℕ → Result (A × Bytes) → Listed → Type 0
-TookList enc num most b t at o old new R (Items i p c) = ListRead enc num most b t at o old new R i p c
-TookList enc num most b t at o old new R NoItems = R ≡ refused 2
+unfoldable pub TookList : {A : Type 0} → (A → List ℕ) → (A → ℕ) → ℕ → ℕ → Bytes → ℕ → ℕ → List ℕ → List ℕ → Result (A × Bytes) → Option Listed → Type 0
+TookList enc num most b t at o old new R (Some s) = ListRead enc num most b t at o old new R s.at s.out s.count
+TookList enc num most b t at o old new R None = R ≡ refused 2
 
-unfoldable pub Lists : {A : Type 0} → (A → List ℕ) → (A → ℕ) → ℕ → ℕ → (ℕ → Reading A) → Bytes → ℕ → ℕ → List ℕ → List ℕ → Listed → Type 0
+unfoldable pub Lists : {A : Type 0} → (A → List ℕ) → (A → ℕ) → ℕ → ℕ → (ℕ → Reading A) → Bytes → ℕ → ℕ → List ℕ → List ℕ → Option Listed → Type 0
 Lists enc num most b R t at o old new r = (n : ℕ) → length t - at < n → TookList enc num most b t at o old new (R n (drop at t)) r
 
 unfoldable pub args_from : ℕ → Bytes → ℕ → Reading Srcs
@@ -204,15 +203,15 @@ pub record PartRead {A : Type 0} (s : ℕ) (enc : A → List ℕ) (head : A → 
   pub ends : q ≡ p + length (enc value)
   pub short : q + at + s ≤ p + i
 
-unfoldable pub TookPart : {A : Type 0} → ℕ → (A → List ℕ) → (A → ℕ) → Bytes → ℕ → ℕ → List ℕ → ℕ → List ℕ → Result (A × Bytes) → Step → Type 0
-TookPart s enc head t at p old o new R (Done i q) = PartRead s enc head t at p old o new R i q
-TookPart s enc head t at p old o new R Bad = R ≡ refused 2
+unfoldable pub TookPart : {A : Type 0} → ℕ → (A → List ℕ) → (A → ℕ) → Bytes → ℕ → ℕ → List ℕ → ℕ → List ℕ → Result (A × Bytes) → Option Step → Type 0
+TookPart s enc head t at p old o new R (Some r) = PartRead s enc head t at p old o new R r.at r.out
+TookPart s enc head t at p old o new R None = R ≡ refused 2
 
 -- k expressions and the closing bracket
-unfoldable pub Follow : ℕ → ℕ → Bytes → ℕ → ℕ → List ℕ → ℕ → List ℕ → Step → Type 0
+unfoldable pub Follow : ℕ → ℕ → Bytes → ℕ → ℕ → List ℕ → ℕ → List ℕ → Option Step → Type 0
 Follow w k t at p old o new r = (n : ℕ) → length t - at < n → TookPart 1 (part_words k) (λ v. w) t at p old o new (parts k t n (drop at t)) r
 
-unfoldable pub Argued : ℕ → ℕ → Bytes → ℕ → ℕ → List ℕ → ℕ → List ℕ → Step → Type 0
+unfoldable pub Argued : ℕ → ℕ → Bytes → ℕ → ℕ → List ℕ → ℕ → List ℕ → Option Step → Type 0
 Argued k m t at p old o new r =
     (n : ℕ) → length t - at < n
     → TookPart 0 wide_srcs (λ es. wide k (pair m (count_srcs es))) t at p old o new (read_args (read_expr operators n (dictionary t)) (drop at t)) r
@@ -233,9 +232,9 @@ pub record EndRead (k c : ℕ) (t : Bytes) (at p : ℕ) (old : List ℕ) (o : �
   pub ends : q ≡ p + length (wide_methods value)
   pub short : q + at + 1 ≤ p + i
 
-unfoldable pub TookEnd : ℕ → ℕ → Bytes → ℕ → ℕ → List ℕ → ℕ → List ℕ → Result (SrcMethods × Bytes) → Step → Type 0
-TookEnd k c t at p old o new R (Done i q) = EndRead k c t at p old o new R i q
-TookEnd k c t at p old o new R Bad = R ≡ refused 2
+unfoldable pub TookEnd : ℕ → ℕ → Bytes → ℕ → ℕ → List ℕ → ℕ → List ℕ → Result (SrcMethods × Bytes) → Option Step → Type 0
+TookEnd k c t at p old o new R (Some r) = EndRead k c t at p old o new R r.at r.out
+TookEnd k c t at p old o new R None = R ≡ refused 2
 
-unfoldable pub Ended : ℕ → ℕ → Bytes → ℕ → ℕ → List ℕ → ℕ → List ℕ → Step → Type 0
+unfoldable pub Ended : ℕ → ℕ → Bytes → ℕ → ℕ → List ℕ → ℕ → List ℕ → Option Step → Type 0
 Ended k c t at p old o new r = (n : ℕ) → length t - at < n → TookEnd k c t at p old o new (read_rest (dictionary t) (read_expr operators n (dictionary t)) (drop at t)) r

@@ -1,25 +1,28 @@
 -- A method's header: its name and parameters, in one word. Assumes nothing.
-use Rattle.std.specs.Prelude.{◌≡◌, refl, Bool, true, false, length, drop, if◌then◌else◌}
+use Rattle.std.specs.Prelude.{◌≡◌, refl, Bool, true, false, length, drop, Option, Some, None}
 use Rattle.std.proofs.Common.{◌∙◌, rules, Fits}
 use Rattle.std.proofs.Math.Path.{subst as transp}
 use mathlib.Core.List.{List, [], ◌∷◌}
 use Prim.Native.Nat.{ℕ, zero, suc, ◌+◌, ◌-◌, ◌*◌, ◌^◌, ◌≤◌, ◌<◌}
 use Rattle.std.proofs.Math.Nat.{pow-zero, pow-succ', pow-le-pow_right, lt_of_lt_of_le}
 use native.Mathlib.Omega.{arith}
-use Rattle.std.specs.Int.{w64}
-use Rattle.atlite.specs.Base.{Result, done, refused, or_refuse, ◌>>=◌, ◌>>◌, bytes}
+use Rattle.atlite.specs.Base.{Result, done, refused, or_refuse, ◌>>=◌, bytes}
 use Rattle.atlite.specs.Lexicon.{Bytes, dictionary}
 use Rattle.atlite.specs.Reader.{Reading, spaced_word, read_word, read_items, read_params, read_names, read_head}
 use Rattle.words.specs.Wide.{wide, pair, wide_params, wide_method, wide_limit, wide_third, wide_names}
 use Rattle.scan.specs.Runs.{Starts}
 use Rattle.lexemes.specs.declared.names.Name.{Name}
-use Rattle.lexemes.specs.declared.names.Name.TheVariants.{Word, NoWord}
-use Rattle.lexemes.specs.declared.headers.Heads.{Heads}
-use Rattle.lexemes.specs.declared.headers.Heads.TheVariants.{Names, NoNames}
+use Rattle.lexemes.specs.declared.headers.Params.{Params}
 use Rattle.lexemes.specs.declared.headers.Header.{Header}
-use Rattle.lexemes.specs.declared.headers.Header.TheVariants.{Head, NoHead}
 use Rattle.lexemes.specs.Atoms.{NameRead, Named, NameOf, SpacedName}
-use Rattle.lexemes.specs.NameLaws.{eat-starts, eat-not, closes, open-still, starts-room, name-small}
+use Rattle.lexemes.specs.NameLaws.{eat-starts, eat-not, closes, open-still, starts-room, name-small, name-within, spaced-small, spaced-within}
+
+-- c parameters up to i, whose names make the number q; a header up to i, in the word w
+abbrev pub params_at : ℕ → ℕ → ℕ → Params
+params_at i c q = record { end = i; count = c; packed = q }
+
+abbrev pub headed_at : ℕ → ℕ → Option Header
+headed_at i w = Some (record { end = i; word = w })
 
 pub record NamesRead (k : ℕ) (R : Result (List ℕ × Bytes)) (t : Bytes) (at i c q : ℕ) : Type 0 where
   pub value : List ℕ
@@ -31,14 +34,14 @@ pub record NamesRead (k : ℕ) (R : Result (List ℕ × Bytes)) (t : Bytes) (at 
   pub few : c ≤ k
   pub small : q < wide_limit ^ k
 
-unfoldable pub TookNames : ℕ → Result (List ℕ × Bytes) → Bytes → ℕ → Heads → Type 0
-TookNames k R t at (Names i c q) = NamesRead k R t at i c q
-TookNames k R t at NoNames = R ≡ refused 2
+unfoldable pub TookNames : ℕ → Result (List ℕ × Bytes) → Bytes → ℕ → Option Params → Type 0
+TookNames k R t at (Some p) = NamesRead k R t at p.end p.count p.packed
+TookNames k R t at None = R ≡ refused 2
 
-unfoldable pub ItemsOf : ℕ → Bytes → ℕ → Heads → Type 0
+unfoldable pub ItemsOf : ℕ → Bytes → ℕ → Option Params → Type 0
 ItemsOf k t at r = TookNames k (read_items [] ◌∷◌ (read_word (dictionary t)) k (drop at t)) t at r
 
-unfoldable pub NamesOf : Bytes → ℕ → Heads → Type 0
+unfoldable pub NamesOf : Bytes → ℕ → Option Params → Type 0
 NamesOf t at r = TookNames 3 (read_names (dictionary t) (drop at t)) t at r
 
 -- the name m, and the parameters xs behind it
@@ -49,9 +52,9 @@ pub record HeadRead (R : Result ((ℕ × List ℕ) × Bytes)) (t : Bytes) (at i 
   pub within : i ≤ length t
   pub word : w ≡ wide_method value.0 value.1
 
-unfoldable pub TookHead : Result ((ℕ × List ℕ) × Bytes) → Bytes → ℕ → Header → Type 0
-TookHead R t at (Head i w) = HeadRead R t at i w
-TookHead R t at NoHead = R ≡ refused 2
+unfoldable pub TookHead : Result ((ℕ × List ℕ) × Bytes) → Bytes → ℕ → Option Header → Type 0
+TookHead R t at (Some h) = HeadRead R t at h.end h.word
+TookHead R t at None = R ≡ refused 2
 
 unfoldable pub read_all : ℕ → List Bytes → Reading (ℕ × List ℕ)
 read_all m ws i = do
@@ -63,15 +66,15 @@ read_header ws i = do
   (m, i₁) ← read_word ws i
   read_all m ws i₁
 
-unfoldable pub ParamsOf : ℕ → Bytes → ℕ → Header → Type 0
+unfoldable pub ParamsOf : ℕ → Bytes → ℕ → Option Header → Type 0
 ParamsOf m t at r = TookHead (read_all m (dictionary t) (drop at t)) t at r
 
-unfoldable pub HeaderOf : Bytes → ℕ → Header → Type 0
+unfoldable pub HeaderOf : Bytes → ℕ → Option Header → Type 0
 HeaderOf t at r = TookHead (read_header (dictionary t) (drop at t)) t at r
 
 -- ---- one more name before others
 module _ (t : Bytes) (at : ℕ) (r : Bool) (s : Starts t at (41 ∷ []) r) where
-  pub items-close : (k : ℕ) → r ≡ true → ItemsOf k t at (Names (at + 1) 0 0)
+  pub items-close : (k : ℕ) → r ≡ true → ItemsOf k t at (Some (params_at (at + 1) 0 0))
   unfolding ItemsOf TookNames read_items wide_params
   items-close zero e = record {
     value = [];
@@ -94,7 +97,7 @@ module _ (t : Bytes) (at : ℕ) (r : Bool) (s : Starts t at (41 ∷ []) r) where
     small = lt_of_lt_of_le (omega arith) (pow-le-pow_right {n = wide_limit} (omega arith) {i = 0} {j = suc k} (omega arith));
   }
 
-  pub items-full : (k : ℕ) → r ≡ false → k ≡ 0 → ItemsOf k t at NoNames
+  pub items-full : (k : ℕ) → r ≡ false → k ≡ 0 → ItemsOf k t at None
   unfolding ItemsOf TookNames read_items
   items-full k e z = rw z (rw (eat-not t at 41 r s e))
 
@@ -121,38 +124,38 @@ module _ (t : Bytes) (at : ℕ) (r : Bool) (s : Starts t at (41 ∷ []) r) where
         small = rw (pow-succ' wide_limit k) (omega arith);
       }
 
-  module _ (k : ℕ) (e : r ≡ false) (z : k ≡ 0 → ⊥) (x : Name) (s' : SpacedName t at x) where
+  module _ (k : ℕ) (e : r ≡ false) (z : k ≡ 0 → ⊥) where
     pred : suc (k - 1) ≡ k
     pred = omega arith
 
-    pub items_more : (y i j c q : ℕ) (h : Heads) → x ≡ Word y i → ItemsOf (k - 1) t i h → h ≡ Names j c q
-        → ItemsOf k t at (Names j (c + 1) (y + wide_limit * q))
+    pub items_more : (x : Name) (p : Params) → SpacedName t at (Some x) → ItemsOf (k - 1) t x.end (Some p)
+        → ItemsOf k t at (Some (params_at p.end (p.count + 1) (x.number + wide_limit * p.packed)))
     unfolding ItemsOf TookNames SpacedName Named
-    items_more y i j c q h u v w =
-        transp (λ (n : ℕ). NamesRead n (read_items [] ◌∷◌ (read_word (dictionary t)) n (drop at t)) t at j (c + 1) (y + wide_limit * q)) pred
-        (more (k - 1) y i j c q e (rw u at s') (rw w at v))
+    items_more x p u v =
+        transp (λ (n : ℕ). NamesRead n (read_items [] ◌∷◌ (read_word (dictionary t)) n (drop at t)) t at p.end (p.count + 1) (x.number + wide_limit * p.packed)) pred
+        (more (k - 1) x.number x.end p.end p.count p.packed e u v)
 
     worse : (n : ℕ) → (spaced_word (dictionary t) (drop at t) ≡ refused 2) → read_items [] ◌∷◌ (read_word (dictionary t)) (suc n) (drop at t) ≡ refused 2
     unfolding read_items spaced_word
     worse n p = rw (open-still t at r s e, read_items) (rw p)
 
-    pub items-bad : x ≡ NoWord → ItemsOf k t at NoNames
+    pub items-bad : SpacedName t at None → ItemsOf k t at None
     unfolding ItemsOf TookNames SpacedName Named
-    items-bad u = transp (λ (n : ℕ). read_items [] ◌∷◌ (read_word (dictionary t)) n (drop at t) ≡ refused 2) pred (worse (k - 1) (rw u at s'))
+    items-bad u = transp (λ (n : ℕ). read_items [] ◌∷◌ (read_word (dictionary t)) n (drop at t) ≡ refused 2) pred (worse (k - 1) u)
 
     worse-rest : (n y i : ℕ) → NameRead (spaced_word (dictionary t) (drop at t)) t at y i → read_items [] ◌∷◌ (read_word (dictionary t)) n (drop i t) ≡ refused 2
         → read_items [] ◌∷◌ (read_word (dictionary t)) (suc n) (drop at t) ≡ refused 2
     unfolding read_items spaced_word
     worse-rest n y i p q = rw (open-still t at r s e, read_items) (rw (p.is, q))
 
-    pub items-rest-bad : (y i : ℕ) (h : Heads) → x ≡ Word y i → ItemsOf (k - 1) t i h → h ≡ NoNames → ItemsOf k t at NoNames
+    pub items-rest-bad : (x : Name) → SpacedName t at (Some x) → ItemsOf (k - 1) t x.end None → ItemsOf k t at None
     unfolding ItemsOf TookNames SpacedName Named
-    items-rest-bad y i h u v w =
+    items-rest-bad x u v =
         transp (λ (n : ℕ). read_items [] ◌∷◌ (read_word (dictionary t)) n (drop at t) ≡ refused 2) pred
-        (worse-rest (k - 1) y i (rw u at s') (rw w at v))
+        (worse-rest (k - 1) x.number x.end u v)
 
   -- the first
-  pub names-close : r ≡ true → NamesOf t at (Names (at + 1) 0 0)
+  pub names-close : r ≡ true → NamesOf t at (Some (params_at (at + 1) 0 0))
   unfolding NamesOf TookNames read_names wide_params
   names-close e = record {
     value = [];
@@ -188,64 +191,38 @@ module _ (t : Bytes) (at : ℕ) (r : Bool) (s : Starts t at (41 ∷ []) r) where
         small = omega arith;
       }
 
-  module _ (e : r ≡ false) (x : Name) (s' : NameOf t at x) where
-    pub names_more : (y i j c q : ℕ) (h : Heads) → x ≡ Word y i → ItemsOf 2 t i h → h ≡ Names j c q → NamesOf t at (Names j (c + 1) (y + wide_limit * q))
+  module _ (e : r ≡ false) where
+    pub names_more : (x : Name) (p : Params) → NameOf t at (Some x) → ItemsOf 2 t x.end (Some p)
+        → NamesOf t at (Some (params_at p.end (p.count + 1) (x.number + wide_limit * p.packed)))
     unfolding NamesOf ItemsOf TookNames NameOf Named
-    names_more y i j c q h u v w = first y i j c q e (rw u at s') (rw w at v)
+    names_more x p u v = first x.number x.end p.end p.count p.packed e u v
 
-    pub names-bad : x ≡ NoWord → NamesOf t at NoNames
+    pub names-bad : NameOf t at None → NamesOf t at None
     unfolding NamesOf TookNames NameOf Named read_names
-    names-bad u = let a = rw u at s' in rw (open-still t at r s e, read_names) (rw a)
+    names-bad u = rw (open-still t at r s e, read_names) (rw u)
 
-    pub names-rest-bad : (y i : ℕ) (h : Heads) → x ≡ Word y i → ItemsOf 2 t i h → h ≡ NoNames → NamesOf t at NoNames
+    pub names-rest-bad : (x : Name) → NameOf t at (Some x) → ItemsOf 2 t x.end None → NamesOf t at None
     unfolding NamesOf ItemsOf TookNames NameOf Named read_names read_params
-    names-rest-bad y i h u v w = let a = rw u at s' in let b = rw w at v in rw (open-still t at r s e, read_names) (rw (a.is, b))
+    names-rest-bad x a b = rw (open-still t at r s e, read_names) (rw (a.is, b))
 
 -- ---- sums fit
-module _ (t : Bytes) (at K : ℕ) (h : Heads) (i c q : ℕ) (v : ItemsOf K t at h) (w : h ≡ Names i c q) where
-  bounds : K ≤ 2 → (c ≤ 2) × (q < wide_third)
+module _ (t : Bytes) (at k : ℕ) (p : Params) (v : ItemsOf k t at (Some p)) (l : k ≤ 2) where
+  pub items-few : p.count ≤ 2
   unfolding ItemsOf TookNames
-  bounds l = let b = rw w at v in let f = b.few in (omega arith, lt_of_lt_of_le b.small (pow-le-pow_right {n = wide_limit} (omega arith) {j = 2} l))
+  items-few = let f = v.few in omega arith
 
-module _ (t : Bytes) (at k : ℕ) (h : Heads) (i c q : ℕ) (l : k ≤ 2) (v : ItemsOf (k - 1) t at h) (w : h ≡ Names i c q) where
-  pub count_fits : Fits w64 (c + 1)
-  count_fits = let b = bounds t at (k - 1) h i c q v w (omega arith) in record { fits = omega arith }
+  pub items-packed : p.packed < wide_third
+  unfolding ItemsOf TookNames
+  items-packed = lt_of_lt_of_le v.small (pow-le-pow_right {n = wide_limit} (omega arith) {j = 2} l)
 
-  pub scaled-fits' : Fits w64 (wide_limit * q)
-  scaled-fits' = let b = bounds t at (k - 1) h i c q v w (omega arith) in record { fits = omega arith }
+module _ (t : Bytes) (at : ℕ) (p : Params) (v : NamesOf t at (Some p)) where
+  pub names-few : p.count ≤ 3
+  unfolding NamesOf TookNames
+  names-few = v.few
 
-  pub packed-fits : (y : ℕ) → y < wide_limit → Fits w64 (y + wide_limit * q)
-  packed-fits y m = let b = bounds t at (k - 1) h i c q v w (omega arith) in record { fits = omega arith }
-
-module _ (t : Bytes) (at : ℕ) (h : Heads) (i c q : ℕ) (v : ItemsOf 2 t at h) (w : h ≡ Names i c q) where
-  pub count-fits₂ : Fits w64 (c + 1)
-  count-fits₂ = let b = bounds t at 2 h i c q v w (omega arith) in record { fits = omega arith }
-
-  pub scaled-fits₂ : Fits w64 (wide_limit * q)
-  scaled-fits₂ = let b = bounds t at 2 h i c q v w (omega arith) in record { fits = omega arith }
-
-  pub packed-fits₂ : (y : ℕ) → y < wide_limit → Fits w64 (y + wide_limit * q)
-  packed-fits₂ y m = let b = bounds t at 2 h i c q v w (omega arith) in record { fits = omega arith }
-
-pub spaced-small : (t : Bytes) (at : ℕ) (c : Name) (y i : ℕ) → SpacedName t at c → c ≡ Word y i → y < wide_limit
-unfolding SpacedName Named
-spaced-small t at c y i n d = (rw d at n).small
-
-pub spaced-within : (t : Bytes) (at : ℕ) (c : Name) (y i : ℕ) → SpacedName t at c → c ≡ Word y i → i ≤ length t
-unfolding SpacedName Named
-spaced-within t at c y i n d = (rw d at n).within
-
-pub name-within : (t : Bytes) (at : ℕ) (c : Name) (y i : ℕ) → NameOf t at c → c ≡ Word y i → i ≤ length t
-unfolding NameOf Named
-name-within t at c y i n d = (rw d at n).within
-
-pub names-few : (t : Bytes) (at : ℕ) (h : Heads) (i c q : ℕ) → NamesOf t at h → h ≡ Names i c q → c ≤ 3
-unfolding NamesOf TookNames
-names-few t at h i c q v w = (rw w at v).few
-
-pub names-small : (t : Bytes) (at : ℕ) (h : Heads) (i c q : ℕ) → NamesOf t at h → h ≡ Names i c q → q < wide_names
-unfolding NamesOf TookNames
-names-small t at h i c q v w = (rw w at v).small
+  pub names-small : p.packed < wide_names
+  unfolding NamesOf TookNames
+  names-small = v.small
 
 -- ---- the header
 module _ (t : Bytes) (at : ℕ) (m : ℕ) (r : Bool) (s : Starts t at (32 ∷ 40 ∷ []) r) where
@@ -263,30 +240,29 @@ module _ (t : Bytes) (at : ℕ) (m : ℕ) (r : Bool) (s : Starts t at (32 ∷ 40
         word = z ∙ rw (b.counted, b.packed);
       }
 
-  pub params-done : (h : Heads) (i c q w : ℕ) → r ≡ true → NamesOf t (at + 2) h → h ≡ Names i c q → w ≡ wide 192 (pair m (c + 4 * q)) → ParamsOf m t at (Head i w)
+  pub params-done : (p : Params) (w : ℕ) → r ≡ true → NamesOf t (at + 2) (Some p) → w ≡ wide 192 (pair m (p.count + 4 * p.packed)) → ParamsOf m t at (headed_at p.end w)
   unfolding ParamsOf TookHead NamesOf TookNames
-  params-done h i c q w e v u z = whole i c q w e (rw u at v) z
+  params-done p w e v z = whole p.end p.count p.packed w e v z
 
-  pub params-bad : (h : Heads) → r ≡ true → NamesOf t (at + 2) h → h ≡ NoNames → ParamsOf m t at NoHead
+  pub params-bad : r ≡ true → NamesOf t (at + 2) None → ParamsOf m t at None
   unfolding ParamsOf TookHead NamesOf TookNames read_all read_head Starts or_refuse bytes
-  params-bad h e v u = let b = rw u at v in rw (rw e at s).0 (rw b)
+  params-bad e b = rw (rw e at s).0 (rw b)
 
-  pub params_none : r ≡ false → ParamsOf m t at NoHead
+  pub params_none : r ≡ false → ParamsOf m t at None
   unfolding ParamsOf TookHead read_all read_head Starts or_refuse bytes
   params_none e = rw (rw e at s)
 
-module _ (t : Bytes) (at : ℕ) (x : Name) (s : NameOf t at x) where
-  pub header-so : (m i : ℕ) (h : Header) → x ≡ Word m i → ParamsOf m t i h → HeaderOf t at h
+module _ (t : Bytes) (at : ℕ) where
+  pub header-so : (x : Name) (h : Option Header) → NameOf t at (Some x) → ParamsOf x.number t x.end h → HeaderOf t at h
   unfolding HeaderOf ParamsOf NameOf Named read_header TookHead
-  header-so m i (Head j w) u v =
-      let a = rw u at s in
+  header-so x (Some h) a v =
       let f = a.far in
       let g = v.far in
       record { value = v.value; is = rw a.is v.is; far = omega arith; within = v.within; word = v.word }
-  header-so m i NoHead u v = let a = rw u at s in rw a.is v
+  header-so x None a v = rw a.is v
 
-  pub header-none : x ≡ NoWord → HeaderOf t at NoHead
+  pub header-none : NameOf t at None → HeaderOf t at None
   unfolding HeaderOf NameOf Named read_header TookHead
-  header-none u = let a = rw u at s in rw a
+  header-none a = rw a
 
-pub ruleset laws = (rules, starts-room, items-close, items-full, items_more, items-bad, items-rest-bad, names-close, names_more, names-bad, names-rest-bad, count_fits, scaled-fits', packed-fits, count-fits₂, scaled-fits₂, packed-fits₂, spaced-small, spaced-within, name-within, name-small, names-few, names-small, params-done, params-bad, params_none, header-so, header-none)
+pub ruleset laws = (rules, starts-room, items-close, items-full, items_more, items-bad, items-rest-bad, names-close, names_more, names-bad, names-rest-bad, items-few, items-packed, spaced-small, spaced-within, name-within, name-small, names-few, names-small, params-done, params-bad, params_none, header-so, header-none)

@@ -1,5 +1,5 @@
 -- A word has the number that the dictionary gives it. Assumes nothing.
-use Rattle.std.specs.Prelude.{◌≡◌, refl, Bool, true, false, List, [], ◌∷◌, ℕ, suc, ◌+◌, ◌≤◌, ◌<◌, eqb, length, drop, if◌then◌else◌}
+use Rattle.std.specs.Prelude.{◌≡◌, refl, Bool, true, false, List, [], ◌∷◌, ℕ, suc, ◌+◌, ◌≤◌, ◌<◌, eqb, length, drop, if◌then◌else◌, Option, Some, None}
 use Rattle.std.proofs.Common.{sym, ap, ◌∙◌, rules}
 use Rattle.std.proofs.Math.Option.{none, some}
 use native.Mathlib.Omega.{arith}
@@ -10,12 +10,11 @@ use Rattle.atlite.specs.Reader.{eat, after, read_word, spaced, spaced_word}
 use Rattle.atlite_laws.specs.Facts.{same_true, same-false-sym}
 use Rattle.scan.specs.Runs.{Run, Starts, index}
 use Rattle.scan.specs.Keywords.{index-le}
-use Rattle.scan.specs.WordNumbers.{low_part, high_part, Placed}
+use Rattle.scan.specs.WordNumbers.{low_part, high_part, Holds, Placed}
 use Rattle.scan.specs.DictionaryLaws.{word-nonempty, word-is, not-apply, word_room}
 use Rattle.words.specs.Wide.{wide_limit}
 use Rattle.lexemes.specs.declared.names.Name.{Name}
-use Rattle.lexemes.specs.declared.names.Name.TheVariants.{Word, NoWord}
-use Rattle.lexemes.specs.Atoms.{Ready, NameRead, Named, NameOf, SpacedName}
+use Rattle.lexemes.specs.Atoms.{NameRead, Named, NameOf, SpacedName, worded}
 
 -- ---- places
 place-some : (ws : List Bytes) (w : Bytes) (n : ℕ) → index ws w < length ws → place n ws w ≡ some (index ws w + n)
@@ -49,29 +48,28 @@ module _ (t : Bytes) (at e : ℕ) (h : Run t at e) where
   far : is_word (slice at e t) ≡ true → at < e
   far k = omega (arith, word-nonempty (slice at e t) k, length-slice at e t h.within)
 
-  pub word_none : (r : Bool) → r ≡ is_word (slice at e t) → r ≡ false → NameOf t at NoWord
+  pub word_none : (r : Bool) → r ≡ is_word (slice at e t) → r ≡ false → NameOf t at None
   unfolding NameOf Named require
   word_none r p q = read-run (dictionary t) ∙ rw (sym p ∙ q)
 
   pub word-apply : (r s : Bool) → r ≡ is_word (slice at e t) → r ≡ true → s ≡ same_bytes (97 ∷ 112 ∷ 112 ∷ 108 ∷ 121 ∷ []) (slice at e t) → s ≡ true
-      → NameOf t at (Word 7 e)
+      → NameOf t at (worded 7 e)
   unfolding NameOf Named number_of Base
   word-apply r s p q u v =
       let w = same_true (bytes "apply") (slice at e t) (sym u ∙ v) in
       record { is = read-run (dictionary t) ∙ rw (sym p ∙ q, ← w); far = far (sym p ∙ q); within = h.within; small = omega arith }
 
-  module _ (low high : List ℕ) (count : ℕ) (s : Ready t low high count) (k : is_word (slice at e t) ≡ true)
+  module _ (low high : List ℕ) (count : ℕ) (s : Holds (dictionary t) low high count) (few : count ≤ 2048) (k : is_word (slice at e t) ≡ true)
       (n : same_bytes (bytes "apply") (slice at e t) ≡ false) (l m i : ℕ) (lo : l ≡ low_part (slice at e t))
       (hi : m ≡ high_part (slice at e t)) (p : Placed low high count l m i) where
     at-index : i ≡ index (dictionary t) (slice at e t)
     unfolding Placed
-    at-index = p (dictionary t) (slice at e t) s.held k lo hi
+    at-index = p (dictionary t) (slice at e t) s k lo hi
 
-    pub place_found : i < count → NameOf t at (Word (i + 8) e)
+    pub place_found : i < count → NameOf t at (worded (i + 8) e)
     unfolding NameOf Named number_of require or_refuse
     place_found c =
-        let d = s.held.counted in
-        let f = s.few in
+        let d = s.counted in
         let x = at-index in
         record {
           is = read-run (dictionary t) ∙ rw (k, same-false-sym (bytes "apply") (slice at e t) n, place-some (dictionary t) (slice at e t) 8 (omega arith), ← x);
@@ -80,10 +78,10 @@ module _ (t : Bytes) (at e : ℕ) (h : Run t at e) where
           small = omega arith;
         }
 
-    pub place-missing : count ≤ i → NameOf t at NoWord
+    pub place-missing : count ≤ i → NameOf t at None
     unfolding NameOf Named number_of require or_refuse
     place-missing c =
-        let d = s.held.counted in
+        let d = s.counted in
         let x = at-index in
         let y = index-le (slice at e t) (dictionary t) in
         read-run (dictionary t) ∙ rw (k, same-false-sym (bytes "apply") (slice at e t) n, place_none (dictionary t) (slice at e t) 8 (omega arith))
@@ -126,32 +124,59 @@ pub starts-room : (t : Bytes) (at k : ℕ) (w : Bytes) (r : Bool) → Starts t a
 unfolding Starts
 starts-room t at k w r s e l = let z = (rw e at s).1 in omega arith
 
-nearer : (t : Bytes) (at b : ℕ) (R Q : Result (ℕ × Bytes)) (r : Name) → at ≤ b → Q ≡ R → Named R t b r → Named Q t at r
+nearer : (t : Bytes) (at b : ℕ) (R Q : Result (ℕ × Bytes)) (r : Option Name) → at ≤ b → Q ≡ R → Named R t b r → Named Q t at r
 unfolding Named
-nearer t at b R Q (Word x i) l e s = let f = s.far in record { is = e ∙ s.is; far = omega arith; within = s.within; small = s.small }
-nearer t at b R Q NoWord l e s = e ∙ s
+nearer t at b R Q (Some x) l e s = let f = s.far in record { is = e ∙ s.is; far = omega arith; within = s.within; small = s.small }
+nearer t at b R Q None l e s = e ∙ s
 
-pub spaced-some : (t : Bytes) (at : ℕ) (r : Bool) (a : Name) → Starts t at (32 ∷ []) r → r ≡ true → NameOf t (at + 1) a → SpacedName t at a
+pub spaced-some : (t : Bytes) (at : ℕ) (r : Bool) (a : Option Name) → Starts t at (32 ∷ []) r → r ≡ true → NameOf t (at + 1) a → SpacedName t at a
 unfolding NameOf SpacedName spaced_word spaced
 spaced-some t at r a s k n = nearer t at (at + 1) _ _ a (omega arith) (rw (eat-starts t at 32 r s k)) n
 
-pub spaced-none : (t : Bytes) (at : ℕ) (r : Bool) → Starts t at (32 ∷ []) r → r ≡ false → SpacedName t at NoWord
+pub spaced-none : (t : Bytes) (at : ℕ) (r : Bool) → Starts t at (32 ∷ []) r → r ≡ false → SpacedName t at None
 unfolding SpacedName Named spaced_word spaced
 spaced-none t at r s k = rw (eat-not t at 32 r s k)
 
--- what was read behind a space, by the answer
-module _ (t : Bytes) (at : ℕ) (x : Name) (s : SpacedName t at x) where
-  pub spaced-read : (y i : ℕ) → x ≡ Word y i → NameRead (spaced_word (dictionary t) (drop at t)) t at y i
-  unfolding SpacedName Named
-  spaced-read y i e = rw e at s
+-- what was read, and behind a space, by the answer; the number of a word has twelve bits
+module _ (t : Bytes) (at : ℕ) where
+  pub name-read : (x : Name) → NameOf t at (Some x) → NameRead (read_word (dictionary t) (drop at t)) t at x.number x.end
+  unfolding NameOf Named
+  name-read x s = s
 
-  pub spaced-refused : x ≡ NoWord → spaced_word (dictionary t) (drop at t) ≡ refused 2
-  unfolding SpacedName Named
-  spaced-refused e = rw e at s
+  pub name-refused : NameOf t at None → read_word (dictionary t) (drop at t) ≡ refused 2
+  unfolding NameOf Named
+  name-refused s = s
 
--- the number of a word that was read has twelve bits
-pub name-small : (t : Bytes) (at : ℕ) (c : Name) (y i : ℕ) → NameOf t at c → c ≡ Word y i → y < wide_limit
-unfolding NameOf Named
-name-small t at c y i n d = (rw d at n).small
+  pub spaced-read : (x : Name) → SpacedName t at (Some x) → NameRead (spaced_word (dictionary t) (drop at t)) t at x.number x.end
+  unfolding SpacedName Named
+  spaced-read x s = s
+
+  pub spaced-refused : SpacedName t at None → spaced_word (dictionary t) (drop at t) ≡ refused 2
+  unfolding SpacedName Named
+  spaced-refused s = s
+
+  pub name-small : (x : Name) → NameOf t at (Some x) → x.number < wide_limit
+  unfolding NameOf Named
+  name-small x s = s.small
+
+  pub name-far : (x : Name) → NameOf t at (Some x) → at < x.end
+  unfolding NameOf Named
+  name-far x s = s.far
+
+  pub name-within : (x : Name) → NameOf t at (Some x) → x.end ≤ length t
+  unfolding NameOf Named
+  name-within x s = s.within
+
+  pub spaced-small : (x : Name) → SpacedName t at (Some x) → x.number < wide_limit
+  unfolding SpacedName Named
+  spaced-small x s = s.small
+
+  pub spaced-far : (x : Name) → SpacedName t at (Some x) → at < x.end
+  unfolding SpacedName Named
+  spaced-far x s = s.far
+
+  pub spaced-within : (x : Name) → SpacedName t at (Some x) → x.end ≤ length t
+  unfolding SpacedName Named
+  spaced-within x s = s.within
 
 pub ruleset laws = (rules, word-is, not-apply, word_room, word_none, word-apply, place_found, place-missing, starts-room, spaced-some, spaced-none)

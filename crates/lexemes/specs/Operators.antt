@@ -148,6 +148,11 @@ unfolding formed
 unformed k [] x y h = rw (ne_eqb (row_in k).operator 1 x, ne_eqb (row_in k).operator 2 y)
 unformed k (j ∷ js) x y h = rw (ne_eqb k j h.1) (unformed k js x y h.0)
 
+-- no operator has the kind of no word
+pub no-kind : operator_of operators 0 ≡ none
+unfolding operator_of Kinds Words demanded
+no-kind = refl
+
 none-formed : (k : ℕ) (os : List Operator) → formed own_kinds k ≡ false → all (λ o. formed own_kinds (operator_kind o)) os ≡ true → operator_of os k ≡ none
 unfolding operator_of all
 none-formed k [] x h = refl

@@ -7,3 +7,4 @@ pub mod headers;
 pub mod names;
 pub mod numbers;
 pub mod scratch;
+pub mod source;

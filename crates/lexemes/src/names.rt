@@ -4,59 +4,68 @@ ghost use Rattle.std.proofs.Math.Seq.{slice};
 ghost use Rattle.atlite.specs.Base.{bytes, same_bytes};
 ghost use Rattle.atlite.specs.Lexicon.{is_word};
 ghost use Rattle.scan.specs.Runs.{Run};
-ghost use Rattle.lexemes.specs.Atoms.{Ready, NameOf, SpacedName};
+ghost use Rattle.lexemes.specs.Atoms.{NameOf, SpacedName};
 
-// A word's number and the position behind it, or none.
-#[derive(Drop)]
-pub enum Name {
-    Word(usize, usize),
-    NoWord,
+use crate::source::Source;
+
+// A word's number, and the position behind the word.
+#[derive(Clone, Copy)]
+pub struct Name {
+    pub number: usize,
+    pub end: usize,
 }
 
-// The number of the word from `at` to `end`.
-pub fn word(text: &[u8], at: usize, end: usize, low: &[u64], high: &[u32], count: usize) -> Name
-    requires { Run text.now at end × Ready text.now low.now high.now count }
-    ensures { NameOf text.now at result }
-{
-    if scan::is_word(text, at, end) {
-        if scan::named(text, at, end, b"apply") {
-            return Name::Word(7, end);
+impl Source<'_> {
+    // The number of the word from `at` to `end`.
+    #[tactic(auto, using(crate::specs::NameLaws::laws))]
+    pub fn word(&self, at: usize, end: usize) -> Option<Name>
+        requires { Run self.now.text.now at end }
+        ensures { NameOf self.now.text.now at result }
+    {
+        if scan::is_word(self.text, at, end) {
+            if scan::named(self.text, at, end, b"apply") {
+                return Some(Name { number: 7, end });
+            }
+            return self.place(at, end);
         }
-        return place(text, at, end, low, high, count);
+        None
     }
-    Name::NoWord
-}
 
-// The same of a word that is not `apply`.
-fn place(text: &[u8], at: usize, end: usize, low: &[u64], high: &[u32], count: usize) -> Name
-    requires { Run text.now at end × Ready text.now low.now high.now count × (is_word (slice at end text.now) ≡ true) × (same_bytes (bytes "apply") (slice at end text.now) ≡ false) }
-    ensures { NameOf text.now at result }
-{
-    let l = scan::low_part(text, at, end);
-    let h = scan::high_part(text, at, end);
-    let i = scan::find(low, high, count, l, h);
-    if i < count {
-        return Name::Word(i + 8, end);
+    // The same of a word that is not `apply`.
+    #[tactic(auto, using(crate::specs::NameLaws::laws))]
+    fn place(&self, at: usize, end: usize) -> Option<Name>
+        requires { Run self.now.text.now at end × (is_word (slice at end self.now.text.now) ≡ true) × (same_bytes (bytes "apply") (slice at end self.now.text.now) ≡ false) }
+        ensures { NameOf self.now.text.now at result }
+    {
+        let l = scan::low_part(self.text, at, end);
+        let h = scan::high_part(self.text, at, end);
+        let low = self.low;
+        let high = self.high;
+        let i = scan::find(low, high, self.count, l, h);
+        if i < self.count {
+            return Some(Name { number: i + 8, end });
+        }
+        None
     }
-    Name::NoWord
-}
 
-// The word at `at`.
-pub fn word_at(text: &[u8], at: usize, low: &[u64], high: &[u32], count: usize) -> Name
-    requires { Ready text.now low.now high.now count × (at ≤ length text.now) }
-    ensures { NameOf text.now at result }
-{
-    let end = scan::run_end(text, at);
-    word(text, at, end, low, high, count)
-}
-
-// The same behind a space.
-pub fn spaced_word(text: &[u8], at: usize, low: &[u64], high: &[u32], count: usize) -> Name
-    requires { Ready text.now low.now high.now count × (at ≤ length text.now) }
-    ensures { SpacedName text.now at result }
-{
-    if scan::starts(text, at, b" ") {
-        return word_at(text, at + 1, low, high, count);
+    // The word at `at`.
+    pub fn word_at(&self, at: usize) -> Option<Name>
+        requires { at ≤ length self.now.text.now }
+        ensures { NameOf self.now.text.now at result }
+    {
+        let end = scan::run_end(self.text, at);
+        self.word(at, end)
     }
-    Name::NoWord
+
+    // The same behind a space.
+    #[tactic(auto, using(crate::specs::NameLaws::laws))]
+    pub fn spaced_word(&self, at: usize) -> Option<Name>
+        requires { at ≤ length self.now.text.now }
+        ensures { SpacedName self.now.text.now at result }
+    {
+        if scan::starts(self.text, at, b" ") {
+            return self.word_at(at + 1);
+        }
+        None
+    }
 }

@@ -1,68 +1,37 @@
 // Numbers: their digits, from the first to the last.
-ghost use Rattle.std.specs.Prelude.{◌≡◌, ◌-◌, ◌≤◌, ◌<◌, length};
-ghost use Rattle.std.proofs.Math.Seq.{slice};
+ghost use Rattle.std.specs.Prelude.{◌≤◌, length};
 ghost use Rattle.lexemes.specs.Atoms.{Digits, NumberIs};
 
-// A number, or none.
-#[derive(Drop)]
-pub enum Number {
-    Is(usize),
-    Not,
-}
+// The greatest number of a script.
+const TOP: usize = layout::MOST as usize;
 
-// What a digit is worth.
-fn digit(b: u8) -> usize
-    ensures { (result ≡ b - 48) × (result < 208) }
+// The number of at most eight digits.
+#[tactic(auto, using(crate::specs::NumberLaws::laws))]
+fn digits(word: &[u8]) -> Option<usize>
+    requires { length word.now ≤ 8 }
+    ensures { Digits word.now result }
 {
-    if b < 48 {
-        return 0;
-    }
-    (b - 48) as usize
-}
-
-// The number of at most eight digits from `at` to `end`.
-fn digits(text: &[u8], at: usize, end: usize) -> Number
-    requires { (at ≤ end) × (end ≤ length text.now) × (end - at ≤ 8) }
-    ensures { Digits (slice at end text.now) result }
-{
-    let mut i = at;
     let mut n = 0;
-    while i < end {
-        if scan::is_digit(text[i]) {
-            n = n * 10 + digit(text[i]);
-            i += 1;
-        } else {
-            return Number::Not;
+    for b in word {
+        if !scan::is_digit(*b) {
+            return None;
         }
+        n = n * 10 + usize::from(*b - b'0');
     }
-    Number::Is(n)
+    Some(n)
 }
 
-// The number from `at` to `end`: no zero before other digits, and in range.
-pub fn decimal(text: &[u8], at: usize, end: usize) -> Number
-    requires { (at ≤ end) × (end ≤ length text.now) }
-    ensures { NumberIs (slice at end text.now) result }
+// The number that a word is: no zero before other digits, and in range.
+#[tactic(auto, using(crate::specs::NumberLaws::laws))]
+pub fn decimal(word: &[u8]) -> Option<usize>
+    ensures { NumberIs word.now result }
 {
-    if end == at {
-        return Number::Not;
+    if word.is_empty() || 8 < word.len() {
+        return None;
     }
-    if 8 < end - at {
-        return Number::Not;
+    if 1 < word.len() && word[0] == b'0' {
+        return None;
     }
-    if text[at] == 48 {
-        if end - at == 1 {
-            return Number::Is(0);
-        }
-        return Number::Not;
-    }
-    let d = digits(text, at, end);
-    match d {
-        Number::Is(n) => {
-            if n <= 16777215 {
-                return Number::Is(n);
-            }
-            Number::Not
-        }
-        Number::Not => Number::Not,
-    }
+    let n = digits(word)?;
+    if n <= TOP { Some(n) } else { None }
 }

@@ -3,8 +3,9 @@ ghost use Rattle.std.specs.Prelude.{◌≡◌, ◌+◌, ◌*◌, ◌≤◌, ◌<
 ghost use Rattle.atlite.specs.Term.{top};
 ghost use Rattle.layout.specs.Numbers.{digit_limit};
 ghost use Rattle.words.specs.Wide.{wide, wide_limit, pair, wide_names};
-ghost use Rattle.lexemes.specs.DescentContract.{Place, Closed};
+ghost use Rattle.lexemes.specs.DescentContract.{Closed, stepped};
 
+use crate::source::Source;
 use words::wide;
 
 // The numbers of the scratch form that positions and counts are put together with.
@@ -12,38 +13,47 @@ pub const LIMIT: usize = wide::LIMIT as usize;
 
 const DIGIT: usize = wide::DIGIT as usize;
 
-// The next positions in the text and in the words, or a refusal.
-#[derive(Drop)]
-pub enum Step {
-    Done(usize, usize),
-    Bad,
+// Where reading goes on in the text, and writing in the words.
+#[derive(Clone, Copy)]
+pub struct Step {
+    pub at: usize,
+    pub out: usize,
 }
 
-// A list's end in the text and in the words, and its count, or a refusal.
-#[derive(Drop)]
-pub enum Listed {
-    Items(usize, usize, usize),
-    NoItems,
+// The same behind a list, and the list's count.
+#[derive(Clone, Copy)]
+pub struct Listed {
+    pub at: usize,
+    pub out: usize,
+    pub count: usize,
 }
 
 // Stores `w` at `o`, behind which the words go on at `p`.
-pub fn put(out: &mut [u64], o: usize, w: u64, i: usize, p: usize) -> Step
-    requires { o < length out.old }
-    ensures { (result ≡ Step.Done i p) × (out.new ≡ set out.old o w) }
+pub fn put(out: &mut [u64; 4096], o: usize, w: u64, i: usize, p: usize) -> Option<Step>
+    requires { o < 4096 }
+    ensures { (result ≡ stepped i p) × (out.new ≡ set out.old o w) }
 {
     out[o] = w;
-    Step::Done(i, p)
+    Some(Step { at: i, out: p })
 }
 
 // The closing bracket of a form whose head word `w` has its place at `o`.
-pub fn close(text: &[u8], at: usize, out: &mut [u64], o: usize, w: u64, p: usize) -> Step
-    requires { Place text.now at p × (length out.old ≡ 4096) × (o < 4096) }
-    ensures { Closed text.now at out.old o w p out.new result }
+#[tactic(auto, using(crate::specs::DescentLaws::closing))]
+pub fn close(
+    s: &Source,
+    at: usize,
+    out: &mut [u64; 4096],
+    o: usize,
+    w: u64,
+    p: usize,
+) -> Option<Step>
+    requires { (at ≤ length s.now.text.now) × (o < 4096) }
+    ensures { Closed s.now.text.now at out.old o w p out.new result }
 {
-    if scan::starts(text, at, b")") {
+    if scan::starts(s.text, at, b")") {
         return put(out, o, w, at + 1, p);
     }
-    Step::Bad
+    None
 }
 
 // Head words: a kind with one name, with two numbers.
@@ -51,14 +61,14 @@ pub fn head(k: u8, x: usize) -> u64
     requires { x < wide_limit }
     ensures { result ≡ wide k x }
 {
-    (k as u64) + wide::KINDS * (x as u64)
+    u64::from(k) + wide::KINDS * (x as u64)
 }
 
 pub fn head2(k: u8, x: usize, y: usize) -> u64
     requires { (x < wide_limit) × (y < wide_limit) }
     ensures { result ≡ wide k (pair x y) }
 {
-    (k as u64) + wide::KINDS * ((x + LIMIT * y) as u64)
+    u64::from(k) + wide::KINDS * ((x + LIMIT * y) as u64)
 }
 
 pub fn number_word(n: usize) -> u64
@@ -79,5 +89,5 @@ pub fn literal_head(k: u8, c: usize, d: usize) -> u64
     requires { (c ≤ 4) × (d ≤ 4) }
     ensures { result ≡ wide k (c + digit_limit * d) }
 {
-    (k as u64) + wide::KINDS * ((c + DIGIT * d) as u64)
+    u64::from(k) + wide::KINDS * ((c + DIGIT * d) as u64)
 }

@@ -1,5 +1,5 @@
 -- The arguments of a message, one after the other to the closing bracket. Assumes nothing.
-use Rattle.std.specs.Prelude.{◌≡◌, refl, Bool, true, false, length, drop}
+use Rattle.std.specs.Prelude.{◌≡◌, refl, Bool, true, false, length, drop, Option, Some, None}
 use Rattle.std.proofs.Math.Path.{ap}
 use Rattle.std.proofs.Common.{◌∙◌}
 use mathlib.Core.List.{List, [], ◌∷◌}
@@ -16,11 +16,9 @@ use Rattle.layout_laws.specs.Writes.{sets-append}
 use Rattle.words.specs.Wide.{wide, pair, wide_src, wide_srcs}
 use Rattle.scan.specs.Runs.{Starts}
 use Rattle.lexemes.specs.declared.scratch.Step.{Step}
-use Rattle.lexemes.specs.declared.scratch.Step.TheVariants.{Done, Bad}
 use Rattle.lexemes.specs.declared.scratch.Listed.{Listed}
-use Rattle.lexemes.specs.declared.scratch.Listed.TheVariants.{Items, NoItems}
 use Rattle.lexemes.specs.NameLaws.{eat-starts, eat-not, closes, open-still, starts-room}
-use Rattle.lexemes.specs.DescentContract.{Took, Reads, ListRead, TookList, Lists, spaceds, args_from, read_args, TookPart, Argued}
+use Rattle.lexemes.specs.DescentContract.{listed, stepped, Took, Reads, ListRead, TookList, Lists, spaceds, args_from, read_args, TookPart, Argued}
 use Rattle.lexemes.specs.DescentLaws.{Spaced}
 
 module _ (t : Bytes) (at o b : ℕ) (old new : List ℕ) (r : Bool) (s : Starts t at (41 ∷ []) r) where
@@ -29,7 +27,7 @@ module _ (t : Bytes) (at o b : ℕ) (old new : List ℕ) (r : Bool) (s : Starts 
   args_end n zero e = rw (eat-starts t at 41 r s e)
   args_end n (suc k) e = rw (closes t at r s e, read_items)
 
-  pub args-close : r ≡ true → b ≤ 3 → Lists wide_srcs count_srcs 3 b (args_from b t) t at o old old (Items (at + 1) o b)
+  pub args-close : r ≡ true → b ≤ 3 → Lists wide_srcs count_srcs 3 b (args_from b t) t at o old old (listed (at + 1) o b)
   unfolding Lists TookList args_from wide_src count_srcs
   args-close e h n l = record {
     value = Srcs.nil;
@@ -43,11 +41,11 @@ module _ (t : Bytes) (at o b : ℕ) (old new : List ℕ) (r : Bool) (s : Starts 
     few = h;
   }
 
-  pub args-full : r ≡ false → b ≡ 3 → Lists wide_srcs count_srcs 3 b (args_from b t) t at o old new NoItems
+  pub args-full : r ≡ false → b ≡ 3 → Lists wide_srcs count_srcs 3 b (args_from b t) t at o old new None
   unfolding Lists TookList args_from read_items
   args-full e h n l = rw h (rw (eat-not t at 41 r s e))
 
-  module _ (e : r ≡ false) (h : b ≤ 3) (z : b ≡ 3 → ⊥) (m₁ : List ℕ) (a : Step) (u : Reads wide_src (spaceds t) t at o old m₁ a) where
+  module _ (e : r ≡ false) (h : b ≤ 3) (z : b ≡ 3 → ⊥) (m₁ : List ℕ) where
     left : 3 - b ≡ suc (3 - (b + 1))
     left = omega arith
 
@@ -56,9 +54,9 @@ module _ (t : Bytes) (at o b : ℕ) (old new : List ℕ) (r : Bool) (s : Starts 
     unfolding read_items
     args-worse n k p = rw (open-still t at r s e, read_items) (rw p)
 
-    pub args-bad : a ≡ Bad → Lists wide_srcs count_srcs 3 b (args_from b t) t at o old new NoItems
+    pub args-bad : Reads wide_src (spaceds t) t at o old m₁ None → Lists wide_srcs count_srcs 3 b (args_from b t) t at o old new None
     unfolding Lists TookList args_from Reads Took spaceds
-    args-bad d n l = rw left (args-worse n (3 - (b + 1)) (rw d at (u n l)))
+    args-bad u n l = rw left (args-worse n (3 - (b + 1)) (u n l))
 
     Tail : ℕ → ℕ → ℕ → ℕ → ℕ → ℕ → Type 0
     Tail n i p k q c = ListRead wide_srcs count_srcs 3 (b + 1) t i p m₁ new (read_items Srcs.nil Srcs.cons (read_expr operators n (dictionary t)) (3 - (b + 1)) (drop i t)) k q c
@@ -92,22 +90,22 @@ module _ (t : Bytes) (at o b : ℕ) (old new : List ℕ) (r : Bool) (s : Starts 
     unfolding read_items
     args-last n i v x y = rw (open-still t at r s e, read_items) (rw x (rw y))
 
-    pub args_more : (i p : ℕ) (c : Listed) → a ≡ Done i p → Lists wide_srcs count_srcs 3 (b + 1) (args_from (b + 1) t) t i p m₁ new c
-        → Lists wide_srcs count_srcs 3 b (args_from b t) t at o old new c
+    pub args_more : (s : Step) (c : Option Listed) → Reads wide_src (spaceds t) t at o old m₁ (Some s)
+        → Lists wide_srcs count_srcs 3 (b + 1) (args_from (b + 1) t) t s.at s.out m₁ new c → Lists wide_srcs count_srcs 3 b (args_from b t) t at o old new c
     unfolding Lists TookList args_from Reads Took spaceds Spaced Tail
-    args_more i p (Items k q c) d v n l =
-        let x = rw d at (u n l) in let f = x.far in rw left (args-next n i p k q c x (v n (omega arith)))
-    args_more i p NoItems d v n l =
-        let x = rw d at (u n l) in let f = x.far in rw left (args-last n i x.value x.is (v n (omega arith)))
+    args_more s (Some z) u v n l =
+        let x = u n l in let f = x.far in rw left (args-next n s.at s.out z.at z.out z.count x (v n (omega arith)))
+    args_more s None u v n l =
+        let x = u n l in let f = x.far in rw left (args-last n s.at x.value x.is (v n (omega arith)))
 
 -- ---- behind the name of a message
-module _ (t : Bytes) (at p o k m : ℕ) (old m₁ new : List ℕ) (b : Listed) (s : Lists wide_srcs count_srcs 3 0 (args_from 0 t) t at p old m₁ b) where
-  pub argued-bad : b ≡ NoItems → Argued k m t at p old o new Bad
+module _ (t : Bytes) (at p o k m : ℕ) (old m₁ new : List ℕ) where
+  pub argued-bad : Lists wide_srcs count_srcs 3 0 (args_from 0 t) t at p old m₁ None → Argued k m t at p old o new None
   unfolding Argued TookPart Lists TookList args_from read_args
-  argued-bad e n l = rw e at (s n l)
+  argued-bad s n l = s n l
 
-  argued-core : (n l q c w : ℕ) (r : Step) → ListRead wide_srcs count_srcs 3 0 t at p old m₁ (read_args (read_expr operators n (dictionary t)) (drop at t)) l q c
-      → w ≡ wide k (pair m c) → r ≡ Done l q → new ≡ set m₁ o w
+  argued-core : (n l q c w : ℕ) (r : Option Step) → ListRead wide_srcs count_srcs 3 0 t at p old m₁ (read_args (read_expr operators n (dictionary t)) (drop at t)) l q c
+      → w ≡ wide k (pair m c) → r ≡ stepped l q → new ≡ set m₁ o w
       → TookPart 0 wide_srcs (λ es. wide k (pair m (count_srcs es))) t at p old o new (read_args (read_expr operators n (dictionary t)) (drop at t)) r
   unfolding TookPart
   argued-core n l q c w r x h e u =
@@ -126,10 +124,11 @@ module _ (t : Bytes) (at p o k m : ℕ) (old m₁ new : List ℕ) (b : Listed) (
         short = omega arith;
       })
 
-  pub argued-done : (l q c w : ℕ) (r : Step) → b ≡ Items l q c → w ≡ wide k (pair m c) → r ≡ Done l q → new ≡ set m₁ o w → Argued k m t at p old o new r
+  pub argued-done : (b : Listed) (w : ℕ) (r : Option Step) → Lists wide_srcs count_srcs 3 0 (args_from 0 t) t at p old m₁ (Some b) → w ≡ wide k (pair m b.count)
+      → r ≡ stepped b.at b.out → new ≡ set m₁ o w → Argued k m t at p old o new r
   unfolding Argued Lists TookList args_from read_args
-  argued-done l q c w r d h e u n i = argued-core n l q c w r (rw d at (s n i)) h e u
+  argued-done b w r s h e u n i = argued-core n b.at b.out b.count w r (s n i) h e u
 
-pub args-small : (t : Bytes) (at o : ℕ) (old new : List ℕ) (b : Listed) (l q c : ℕ) → b ≡ Items l q c → Lists wide_srcs count_srcs 3 0 (args_from 0 t) t at o old new b → c < 4096
+pub args-small : (t : Bytes) (at o : ℕ) (old new : List ℕ) (b : Listed) → Lists wide_srcs count_srcs 3 0 (args_from 0 t) t at o old new (Some b) → b.count < 4096
 unfolding Lists TookList
-args-small t at o old new b l q c e s = let r = rw e at (s (length t - at + 1) (omega arith)) in let f = r.few in omega arith
+args-small t at o old new b s = let r = s (length t - at + 1) (omega arith) in let f = r.few in omega arith

@@ -1,16 +1,16 @@
 -- Expressions by their first byte and their operator. The reader takes an operator's operands as a list of so many; at a known operator
 -- that computes to the parts that the functions of the descent read one after another. Assumes nothing.
-use Rattle.std.specs.Prelude.{◌≡◌, Bool, true, false, List, [], ◌∷◌, ◌++◌, eqb, drop, if◌then◌else◌}
+use Rattle.std.specs.Prelude.{◌≡◌, Bool, true, false, List, [], ◌∷◌, ◌++◌, eqb, drop, if◌then◌else◌, Option, Some, None}
 use Rattle.std.proofs.Math.Path.{refl}
 use Rattle.std.proofs.Common.{sym, ap, ◌∙◌, append-nil, eqb-true, ne_eqb}
-use Rattle.std.proofs.Math.Option.{Option, none, some}
+use Rattle.std.proofs.Math.Option.{Option as Maybe, none, some}
 use Prim.Native.Nat.{ℕ, zero, suc, ◌+◌, ◌-◌, ◌≤◌}
 use native.Mathlib.Omega.{arith}
 use Rattle.std.proofs.lemmas.Bool.{eqb-false}
 use Rattle.std.proofs.Math.ListN.{length}
 use Rattle.std.proofs.Math.Seq.{slice}
 use Rattle.atlite.specs.Base.{Base, refused, or_refuse, ◌>>=◌}
-use Rattle.atlite.specs.Term.{Shape, exactly, Kind, object, isolate, actor, call, send}
+use Rattle.atlite.specs.Term.{Shape, exactly, Kind, call, send}
 use Rattle.atlite.specs.Lexicon.{Bytes, dictionary, is_number, is_word, letter_first}
 use Rattle.atlite.specs.Keywords.{Operator, naming, operators}
 use Rattle.atlite.specs.Script.{SrcOp, kept, ask, resolve, seq, src_shape, Src, op, Srcs, nil, cons, count_srcs}
@@ -19,13 +19,11 @@ use Rattle.layout.specs.Terms.{kind_number, label_number}
 use Rattle.layout.specs.Tables.{src_kind}
 use Rattle.decoding.specs.Kinds.{Words, kind_in, row_in}
 use Rattle.words.specs.Wide.{wide, pair, wide_payload, wide_src, wide_srcs}
-use Rattle.scan.specs.Runs.{Run, Starts}
+use Rattle.scan.specs.Runs.{Run, Starts, Kinded}
 use Rattle.lexemes.specs.declared.names.Name.{Name}
-use Rattle.lexemes.specs.declared.names.Name.TheVariants.{Word, NoWord}
 use Rattle.lexemes.specs.declared.scratch.Step.{Step}
-use Rattle.lexemes.specs.declared.scratch.Step.TheVariants.{Bad}
 use Rattle.lexemes.specs.Atoms.{SpacedName}
-use Rattle.lexemes.specs.Operators.{operator_of, operator-kind, is-bare, is-naming, own_kinds, Unformed, no-operator}
+use Rattle.lexemes.specs.Operators.{operator_of, operator-kind, is-bare, is-naming, own_kinds, Unformed, no-operator, no-kind}
 use Rattle.lexemes.specs.DescentContract.{Took, Reads, exprs, brackets, form_by, forms, read_one, ones, one_words, Parts, read_parts, parts, part_words, head_words, read_mid, mids, mid_words, Follow, read_args, read_send, sends, send_words, read_literal, literals, literal_words}
 use Rattle.lexemes.specs.NameLaws.{starts-room, spaced-read, spaced-refused}
 use Rattle.lexemes.specs.DescentLaws.{shift, bind_assoc, under, took-under}
@@ -50,7 +48,7 @@ not-open n ws (c ∷ i) e = go (eqb 40 c) refl e
     go true p q = absurd (let z : ◌≡◌ {A = ℕ} 0 1 = cc in omega arith)
     go false p q = rw (ne_eqb c 40 (λ z. let y = eqb-false 40 c p in y (sym z)), read_expr)
 
-module _ (t : Bytes) (at o : ℕ) (old new : List ℕ) (r : Bool) (s : Starts t at (40 ∷ []) r) (a : Step) where
+module _ (t : Bytes) (at o : ℕ) (old new : List ℕ) (r : Bool) (s : Starts t at (40 ∷ []) r) (a : Option Step) where
   opened : (n : ℕ) → r ≡ true → read_expr operators (suc n) (dictionary t) (drop at t) ≡ brackets t n (drop (at + 1) t)
   unfolding Starts read_expr brackets
   opened n k = let z = open-byte (drop at t) (drop (at + 1) t) (rw k at s).0 in rw z
@@ -73,21 +71,25 @@ module _ (t : Bytes) (at o : ℕ) (old new : List ℕ) (r : Bool) (s : Starts t 
       (ap (λ (m : ℕ). read_expr operators m (dictionary t) (drop at t)) (sym z) ∙ not-open (n - 1) (dictionary t) (drop at t) (rw k at s)) h
 
 -- ---- the operator
-module _ (t : Bytes) (at e o k : ℕ) (old new : List ℕ) (a : Step) where
+module _ (t : Bytes) (at e o k : ℕ) (old new : List ℕ) (a : Option Step) where
   operator-form : (n : ℕ) → Run t at e → k ≡ kind_in (slice at e t) → brackets t n (drop at t) ≡ forms k t n (drop e t)
   unfolding brackets forms form_by or_refuse
   operator-form n h p = rw (h.is, h.rest, operator-kind (slice at e t), ← p) (go (operator_of operators k))
     where
-      go : (x : Option Operator) → (or_refuse 2 x >>= λ q. read_form q (dictionary t) (read_expr operators n (dictionary t)) (drop e t))
+      go : (x : Maybe Operator) → (or_refuse 2 x >>= λ q. read_form q (dictionary t) (read_expr operators n (dictionary t)) (drop e t))
           ≡ (elim x [ none ↦ refused 2 | some q ↦ read_form q (dictionary t) (read_expr operators n (dictionary t)) (drop e t) ])
       go none = refl
       go (some q) = refl
 
-  pub bracket-form : Run t at e → k ≡ kind_in (slice at e t) → Reads wide_src (forms k t) t e o old new a → Reads wide_src (brackets t) t at o old new a
-  unfolding Reads
+  pub bracket-form : Run t at e → Kinded (slice at e t) (Some k) → Reads wide_src (forms k t) t e o old new a → Reads wide_src (brackets t) t at o old new a
+  unfolding Reads Kinded
   bracket-form h p s n l =
       let f = h.from in
-      shift Src wide_src t at o old new e _ _ a f (operator-form n h p) (s n (omega arith))
+      shift Src wide_src t at o old new e _ _ a f (operator-form n h p.0) (s n (omega arith))
+
+  pub bracket-none : Run t at e → Kinded (slice at e t) None → Reads wide_src (brackets t) t at o old new None
+  unfolding Reads Took Kinded brackets or_refuse
+  bracket-none h p n l = rw (h.is, operator-kind (slice at e t), ← p, no-kind)
 
 -- ---- forms by their shapes
 unfoldable part_srcs : (n : ℕ) → Parts n → Srcs
@@ -140,7 +142,7 @@ kind-of Kind.object k e = rw e
 kind-of Kind.isolate k e = rw e
 kind-of Kind.actor k e = rw e
 
-module _ (t : Bytes) (at o : ℕ) (old new : List ℕ) (a : Step) where
+module _ (t : Bytes) (at o : ℕ) (old new : List ℕ) (a : Option Step) where
   -- behind the operator of kind k its parts are read, from b on
   form-as : {A : Type 0} (f : A → Src) (enc : A → List ℕ) → ((v : A) → wide_src (f v) ≡ enc v) → (b : ℕ) → at ≤ b → (R : ℕ → Reading A) (k : ℕ)
       → ((n : ℕ) → forms k t n (drop at t) ≡ (R n (drop b t) >>= under f)) → Reads enc R t b o old new a → Reads wide_src (forms k t) t at o old new a
@@ -227,48 +229,47 @@ module _ (t : Bytes) (at o : ℕ) (old new : List ℕ) (a : Step) where
   pub form-own : (k j : ℕ) → k ≡ j → Reads wide_src (forms j t) t at o old new a → Reads wide_src (forms k t) t at o old new a
   form-own k j e s = rw e s
 
-pub form-rest : (t : Bytes) (at o k : ℕ) (old new : List ℕ) → ((row_in k).operator ≡ 1 → ⊥) → ((row_in k).operator ≡ 2 → ⊥) → Unformed own_kinds k → Reads wide_src (forms k t) t at o old new Bad
+pub form-rest : (t : Bytes) (at o k : ℕ) (old new : List ℕ) → ((row_in k).operator ≡ 1 → ⊥) → ((row_in k).operator ≡ 2 → ⊥) → Unformed own_kinds k → Reads wide_src (forms k t) t at o old new None
 unfolding Reads Took forms form_by
 form-rest t at o k old new x y h n l = rw (no-operator k x y h, form_by)
 
 -- ---- words before expressions
-module _ (t : Bytes) (at o : ℕ) (old new : List ℕ) (x : Name) (s : SpacedName t at x) where
-  pub let-bad : x ≡ NoWord → Reads wide_src (forms 11 t) t at o old new Bad
+module _ (t : Bytes) (at o : ℕ) (old new : List ℕ) where
+  pub let-bad : SpacedName t at None → Reads wide_src (forms 11 t) t at o old new None
   unfolding Reads Took Forms
-  let-bad e n l = rw (spaced-refused t at x s e)
+  let-bad s n l = rw (spaced-refused t at s)
 
-  pub future-bad : x ≡ NoWord → Reads wide_src (forms 12 t) t at o old new Bad
+  pub future-bad : SpacedName t at None → Reads wide_src (forms 12 t) t at o old new None
   unfolding Reads Took Forms
-  future-bad e n l = rw (spaced-refused t at x s e)
+  future-bad s n l = rw (spaced-refused t at s)
 
-  pub fn-bad : x ≡ NoWord → Reads wide_src (forms 65 t) t at o old new Bad
+  pub fn-bad : SpacedName t at None → Reads wide_src (forms 65 t) t at o old new None
   unfolding Reads Took Forms
-  fn-bad e n l = rw (spaced-refused t at x s e)
+  fn-bad s n l = rw (spaced-refused t at s)
 
-  module _ (y i : ℕ) (e : x ≡ Word y i) where
-    pub let-done : (w : ℕ) (a : Step) → w ≡ wide 11 y → Follow w 2 t i (o + 1) old o new a → Reads wide_src (forms 11 t) t at o old new a
+  module _ (x : Name) (s : SpacedName t at (Some x)) where
+    pub let-done : (w : ℕ) (a : Option Step) → w ≡ wide 11 x.number → Follow w 2 t x.end (o + 1) old o new a → Reads wide_src (forms 11 t) t at o old new a
     unfolding Forms
     let-done w a h u =
-        let r = spaced-read t at x s y i e in
-        form-as t at o old new a (λ v. Src.let_in y v.0 v.1.0) (head_words w 2)
-        (λ v. rw h (ap (λ z. wide 11 y ∷ (wide_src v.0 ++ z)) (sym (append-nil (wide_src v.1.0)))))
-        i (omega arith) (parts 2 t) 11 (λ n. rw r.is (simp bind_assoc)) (whole t i o w 2 old new a u)
+        let r = spaced-read t at x s in
+        form-as t at o old new a (λ v. Src.let_in x.number v.0 v.1.0) (head_words w 2)
+        (λ v. rw h (ap (λ z. wide 11 x.number ∷ (wide_src v.0 ++ z)) (sym (append-nil (wide_src v.1.0)))))
+        x.end (omega arith) (parts 2 t) 11 (λ n. rw r.is (simp bind_assoc)) (whole t x.end o w 2 old new a u)
 
-    pub fn-done : (w : ℕ) (a : Step) → w ≡ wide 65 y → Reads (one_words w) (ones t) t i o old new a → Reads wide_src (forms 65 t) t at o old new a
+    pub fn-done : (w : ℕ) (a : Option Step) → w ≡ wide 65 x.number → Reads (one_words w) (ones t) t x.end o old new a → Reads wide_src (forms 65 t) t at o old new a
     unfolding Forms
     fn-done w a h u =
-        let r = spaced-read t at x s y i e in
-        form-as t at o old new a (Src.fn y) (one_words w) (λ v. rw h) i (omega arith) (ones t) 65 (λ n. rw r.is (simp bind_assoc)) u
+        let r = spaced-read t at x s in
+        form-as t at o old new a (Src.fn x.number) (one_words w) (λ v. rw h) x.end (omega arith) (ones t) 65 (λ n. rw r.is (simp bind_assoc)) u
 
-    module _ (v : Name) (q : SpacedName t i v) where
-      pub future-later-bad : v ≡ NoWord → Reads wide_src (forms 12 t) t at o old new Bad
-      unfolding Reads Took Forms
-      future-later-bad d n l = let r = spaced-read t at x s y i e in rw r.is (rw (spaced-refused t i v q d))
+    pub future-later-bad : SpacedName t x.end None → Reads wide_src (forms 12 t) t at o old new None
+    unfolding Reads Took Forms
+    future-later-bad d n l = let r = spaced-read t at x s in rw r.is (rw (spaced-refused t x.end d))
 
-      pub future-done : (w z j : ℕ) (a : Step) → v ≡ Word z j → w ≡ wide 12 (pair y z) → Reads (one_words w) (ones t) t j o old new a
-          → Reads wide_src (forms 12 t) t at o old new a
-      unfolding Forms
-      future-done w z j a d h u =
-          let r = spaced-read t at x s y i e in
-          let r' = spaced-read t i v q z j d in
-          form-as t at o old new a (Src.future y z) (one_words w) (λ v. rw h) j (omega arith) (ones t) 12 (λ n. rw r.is (rw r'.is (simp bind_assoc))) u
+    pub future-done : (y : Name) (w : ℕ) (a : Option Step) → SpacedName t x.end (Some y) → w ≡ wide 12 (pair x.number y.number) → Reads (one_words w) (ones t) t y.end o old new a
+        → Reads wide_src (forms 12 t) t at o old new a
+    unfolding Forms
+    future-done y w a q h u =
+        let r = spaced-read t at x s in
+        let r' = spaced-read t x.end y q in
+        form-as t at o old new a (Src.future x.number y.number) (one_words w) (λ v. rw h) y.end (omega arith) (ones t) 12 (λ n. rw r.is (rw r'.is (simp bind_assoc))) u

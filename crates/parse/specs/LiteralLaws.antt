@@ -1,5 +1,5 @@
 -- Literals: fields and methods, item by item, each with its header word before its expression. Assumes nothing.
-use Rattle.std.specs.Prelude.{◌≡◌, Bool, true, false, ℕ, suc, ◌+◌, ◌-◌, ◌*◌, ◌≤◌, ◌<◌, drop}
+use Rattle.std.specs.Prelude.{◌≡◌, Bool, true, false, ℕ, suc, ◌+◌, ◌-◌, ◌*◌, ◌≤◌, ◌<◌, drop, Option, Some, None}
 use Rattle.std.proofs.Math.Path.{refl, ap}
 use Rattle.std.proofs.Common.{sym, ◌∙◌}
 use mathlib.Core.List.{List, [], ◌∷◌, ◌++◌}
@@ -16,35 +16,30 @@ use Rattle.layout.specs.Numbers.{field_kind, digit_limit}
 use Rattle.words.specs.Wide.{wide, wide_src, wide_fields, wide_methods}
 use Rattle.scan.specs.Runs.{Starts}
 use Rattle.lexemes.specs.declared.names.Name.{Name}
-use Rattle.lexemes.specs.declared.names.Name.TheVariants.{Word, NoWord}
 use Rattle.lexemes.specs.declared.scratch.Step.{Step}
-use Rattle.lexemes.specs.declared.scratch.Step.TheVariants.{Done, Bad}
 use Rattle.lexemes.specs.declared.scratch.Listed.{Listed}
-use Rattle.lexemes.specs.declared.scratch.Listed.TheVariants.{Items, NoItems}
 use Rattle.lexemes.specs.Atoms.{NameRead, Named, NameOf}
-use Rattle.lexemes.specs.DescentContract.{Place, Read, Took, Reads, Closed, ListRead, TookList, Lists, read_one, ones, one_words, read_literal, literals, literal_words, fields_from, methods_from, field_at, read_rest, TookEnd, Ended}
+use Rattle.lexemes.specs.DescentContract.{listed, Read, Took, Reads, Closed, ListRead, TookList, Lists, read_one, ones, one_words, read_literal, literals, literal_words, fields_from, methods_from, field_at, read_rest, TookEnd, Ended}
 use Rattle.layout_laws.specs.Writes.{sets-append}
 use Rattle.lexemes.specs.DescentLaws.{bind_assoc, headed}
 
 -- ---- places
-module _ (A : Type 0) (enc : A → List ℕ) (num : A → ℕ) (most b : ℕ) (R : ℕ → Reading A) (t : Bytes) (at o : ℕ) (old new : List ℕ) (a : Listed)
-    (i p c : ℕ) (e : a ≡ Items i p c) (s : Lists enc num most b R t at o old new a) where
-  once : ListRead enc num most b t at o old new (R (length t - at + 1) (drop at t)) i p c
+module _ (A : Type 0) (enc : A → List ℕ) (num : A → ℕ) (most b : ℕ) (R : ℕ → Reading A) (t : Bytes) (at o : ℕ) (old new : List ℕ) (s : Listed)
+    (u : Lists enc num most b R t at o old new (Some s)) where
+  once : ListRead enc num most b t at o old new (R (length t - at + 1) (drop at t)) s.at s.out s.count
   unfolding Lists TookList
-  once = rw e at (s (length t - at + 1) (omega arith))
+  once = u (length t - at + 1) (omega arith)
 
-  pub place-list : Place t at o → Place t i p
-  place-list h =
-      let r = once in
-      let b = r.short in
-      let c = h.behind in
-      let w = r.within in
-      record { short = h.short; within = w; behind = omega arith }
+  pub list-within : s.at ≤ length t
+  list-within = let r = once in r.within
 
-  pub fall-list : (τ : ℕ) → 6 * (length t - at) + 3 ≡ τ → 6 * (length t - i) + 2 < τ
-  fall-list τ q = let r = once in let f = r.far in let w = r.within in omega arith
+  pub list-far : at ≤ s.at
+  list-far = let r = once in r.far
 
-  pub list-few : c ≤ most
+  pub list-short : o ≤ at → s.out ≤ s.at
+  list-short h = let r = once in let b = r.short in omega arith
+
+  pub list-few : s.count ≤ most
   list-few = let r = once in r.few
 
 -- ---- no item, and what stands behind an opening of d bytes
@@ -102,18 +97,18 @@ module _ (L : Type 0) (enc : L → List ℕ) (num : L → ℕ) (con : Src → L 
 unfoldable pub OneRead : Bytes → ℕ → ℕ → ℕ → List ℕ → List ℕ → ℕ → ℕ → ℕ → Type 0
 OneRead t i o w old new n j p = Read (one_words w) t i o old new (read_one (read_expr operators n (dictionary t)) (drop i t)) j p
 
-module _ (t : Bytes) (at i o w : ℕ) (old new : List ℕ) (a : Step) (far : at < i) (u : Reads (one_words w) (ones t) t i o old new a) where
-  pub value-bad : (n : ℕ) → a ≡ Bad → length t - at < n → read_one (read_expr operators n (dictionary t)) (drop i t) ≡ refused 2
+module _ (t : Bytes) (at i o w : ℕ) (old new : List ℕ) (far : at < i) where
+  pub value-bad : (n : ℕ) → Reads (one_words w) (ones t) t i o old new None → length t - at < n → read_one (read_expr operators n (dictionary t)) (drop i t) ≡ refused 2
   unfolding Reads Took ones
-  value-bad n d l = rw d at (u n (omega arith))
+  value-bad n u l = u n (omega arith)
 
-  pub value : (n j p : ℕ) → length t - at < n → a ≡ Done j p → OneRead t i o w old new n j p
+  pub value : (n : ℕ) (e : Step) → length t - at < n → Reads (one_words w) (ones t) t i o old new (Some e) → OneRead t i o w old new n e.at e.out
   unfolding Reads Took ones OneRead
-  value n j p l d = rw d at (u n (omega arith))
+  value n e l u = u n (omega arith)
 
 -- ---- fields
 module _ (t : Bytes) (at o b : ℕ) (old new : List ℕ) where
-  pub fields-full : at ≤ length t → b ≡ 4 → Lists wide_fields count_fields 4 b (fields_from b t) t at o old old (Items at o b)
+  pub fields-full : at ≤ length t → b ≡ 4 → Lists wide_fields count_fields 4 b (fields_from b t) t at o old old (listed at o b)
   unfolding Lists TookList fields_from read_fields wide_src count_fields
   fields-full h e n l = no_item SrcFields wide_fields count_fields t at o b old SrcFields.no_field _ refl refl (rw e) h (omega arith)
 
@@ -125,69 +120,72 @@ module _ (t : Bytes) (at o b : ℕ) (old new : List ℕ) where
     unfolding Starts read_fields field_at read_one bytes
     field_is n e = let y = rw e at s in rw (y.0, read_fields) (simp bind_assoc)
 
-    pub fields-more : (a : Listed) → r ≡ true → Lists wide_fields count_fields 4 b (field_at b t) t (at + 8) o old new a
+    pub fields-more : (a : Option Listed) → r ≡ true → Lists wide_fields count_fields 4 b (field_at b t) t (at + 8) o old new a
         → Lists wide_fields count_fields 4 b (fields_from b t) t at o old new a
     unfolding Lists TookList fields_from
-    fields-more (Items i p c) e u n l = behind SrcFields wide_fields count_fields t at o b old _ i p c new _ _ (rw left (field_is n e)) (u n (omega arith))
-    fields-more NoItems e u n l = rw left (field_is n e) ∙ u n (omega arith)
+    fields-more (Some z) e u n l = behind SrcFields wide_fields count_fields t at o b old _ z.at z.out z.count new _ _ (rw left (field_is n e)) (u n (omega arith))
+    fields-more None e u n l = rw left (field_is n e) ∙ u n (omega arith)
 
     none_is : (n : ℕ) → r ≡ false → read_fields (dictionary t) (read_expr operators n (dictionary t)) (suc (4 - (b + 1))) (drop at t) ≡ done (SrcFields.no_field, drop at t)
     unfolding Starts read_fields bytes
     none_is n e = let y = rw e at s in rw (y, read_fields)
 
-    pub fields-none : r ≡ false → at ≤ length t → Lists wide_fields count_fields 4 b (fields_from b t) t at o old old (Items at o b)
+    pub fields-none : r ≡ false → at ≤ length t → Lists wide_fields count_fields 4 b (fields_from b t) t at o old old (listed at o b)
     unfolding Lists TookList fields_from wide_src count_fields
     fields-none e k n l = no_item SrcFields wide_fields count_fields t at o b old SrcFields.no_field _ refl refl (rw left (none_is n e)) k h
 
-  module _ (x : Name) (s : NameOf t at x) where
-    pub field-bad : x ≡ NoWord → Lists wide_fields count_fields 4 b (field_at b t) t at o old new NoItems
-    unfolding Lists TookList field_at NameOf Named
-    field-bad e n l = let y = rw e at s in rw y
+  pub field-bad : NameOf t at None → Lists wide_fields count_fields 4 b (field_at b t) t at o old new None
+  unfolding Lists TookList field_at NameOf Named
+  field-bad s n l = rw s
 
-    module _ (f i w : ℕ) (e : x ≡ Word f i) (h : w ≡ wide field_kind f) (m₁ : List ℕ) (a : Step) (u : Reads (one_words w) (ones t) t i o old m₁ a) where
-      named : NameRead (read_word (dictionary t) (drop at t)) t at f i
-      unfolding NameOf Named
-      named = rw e at s
+  module _ (x : Name) (s : NameOf t at (Some x)) (w : ℕ) (h : w ≡ wide field_kind x.number) (m₁ : List ℕ) where
+    abbrev i : ℕ
+    i = x.end
 
-      pub field-value-bad : a ≡ Bad → Lists wide_fields count_fields 4 b (field_at b t) t at o old new NoItems
-      unfolding Lists TookList field_at
-      field-value-bad d n l = let y = named in rw y.is (rw (value-bad t at i o w old m₁ a y.far u n d l))
+    named : NameRead (read_word (dictionary t) (drop at t)) t at x.number i
+    unfolding NameOf Named
+    named = s
 
-      abbrev One : ℕ → ℕ → ℕ → Type 0
-      One n j p = OneRead t i o w old m₁ n j p
+    pub field-value-bad : Reads (one_words w) (ones t) t x.end o old m₁ None → Lists wide_fields count_fields 4 b (field_at b t) t at o old new None
+    unfolding Lists TookList field_at
+    field-value-bad u n l = let y = named in rw y.is (rw (value-bad t at i o w old m₁ y.far n u l))
 
-      Rest : ℕ → ℕ → ℕ → ℕ → ℕ → ℕ → Type 0
-      Rest n j p k q c = ListRead wide_fields count_fields 4 (b + 1) t j p m₁ new (read_fields (dictionary t) (read_expr operators n (dictionary t)) (4 - (b + 1)) (drop j t)) k q c
+    abbrev One : ℕ → ℕ → ℕ → Type 0
+    One n j p = OneRead t i o w old m₁ n j p
 
-      field-core : (n j p k q c : ℕ) → One n j p → Rest n j p k q c → ListRead wide_fields count_fields 4 b t at o old new (field_at b t n (drop at t)) k q c
-      unfolding field_at wide_src count_fields OneRead Rest
-      field-core n j p k q c z v =
-          let y = named in
-          let g = y.far in
-          item-core SrcFields wide_fields count_fields (SrcFields.field f) w (λ e l. rw h) (λ e l. refl) t at o b i j p k q c old m₁ new _ _ _ z v
-          (rw y.is (rw z.is (rw v.is))) (omega arith)
+    Rest : ℕ → ℕ → ℕ → ℕ → ℕ → ℕ → Type 0
+    Rest n j p k q c = ListRead wide_fields count_fields 4 (b + 1) t j p m₁ new (read_fields (dictionary t) (read_expr operators n (dictionary t)) (4 - (b + 1)) (drop j t)) k q c
 
-      field-last : (n j p : ℕ) → One n j p → read_fields (dictionary t) (read_expr operators n (dictionary t)) (4 - (b + 1)) (drop j t) ≡ refused 2 → field_at b t n (drop at t) ≡ refused 2
-      unfolding field_at OneRead
-      field-last n j p z v = let y = named in rw y.is (rw z.is (rw v))
+    field-core : (n j p k q c : ℕ) → One n j p → Rest n j p k q c → ListRead wide_fields count_fields 4 b t at o old new (field_at b t n (drop at t)) k q c
+    unfolding field_at wide_src count_fields OneRead Rest
+    field-core n j p k q c z v =
+        let y = named in
+        let g = y.far in
+        item-core SrcFields wide_fields count_fields (SrcFields.field x.number) w (λ e l. rw h) (λ e l. refl) t at o b i j p k q c old m₁ new _ _ _ z v
+        (rw y.is (rw z.is (rw v.is))) (omega arith)
 
-      pub field-done : (j p : ℕ) (c : Listed) → a ≡ Done j p → Lists wide_fields count_fields 4 (b + 1) (fields_from (b + 1) t) t j p m₁ new c
-          → Lists wide_fields count_fields 4 b (field_at b t) t at o old new c
-      unfolding Lists TookList fields_from OneRead Rest
-      field-done j p (Items k q c) d v n l =
-          let z = value t at i o w old m₁ a named.far u n j p l d in let g = named.far in let g' = z.far in field-core n j p k q c z (v n (omega arith))
-      field-done j p NoItems d v n l =
-          let z = value t at i o w old m₁ a named.far u n j p l d in let g = named.far in let g' = z.far in field-last n j p z (v n (omega arith))
+    field-last : (n j p : ℕ) → One n j p → read_fields (dictionary t) (read_expr operators n (dictionary t)) (4 - (b + 1)) (drop j t) ≡ refused 2 → field_at b t n (drop at t) ≡ refused 2
+    unfolding field_at OneRead
+    field-last n j p z v = let y = named in rw y.is (rw z.is (rw v))
+
+    pub field-done : (e : Step) (c : Option Listed) → Reads (one_words w) (ones t) t x.end o old m₁ (Some e)
+        → Lists wide_fields count_fields 4 (b + 1) (fields_from (b + 1) t) t e.at e.out m₁ new c
+        → Lists wide_fields count_fields 4 b (field_at b t) t at o old new c
+    unfolding Lists TookList fields_from OneRead Rest
+    field-done e (Some y) u v n l =
+        let z = value t at i o w old m₁ named.far n e l u in let g = named.far in let g' = z.far in field-core n e.at e.out y.at y.out y.count z (v n (omega arith))
+    field-done e None u v n l =
+        let z = value t at i o w old m₁ named.far n e l u in let g = named.far in let g' = z.far in field-last n e.at e.out z (v n (omega arith))
 
 -- ---- literals
-module _ (t : Bytes) (at p o k c : ℕ) (old m₁ new : List ℕ) (b : Listed) (s : Lists wide_methods count_methods 4 0 (methods_from 0 t) t at p old m₁ b) where
+module _ (t : Bytes) (at p o k c : ℕ) (old m₁ new : List ℕ) where
   abbrev Methods : ℕ → ℕ → ℕ → ℕ → Type 0
   Methods n j q d = ListRead wide_methods count_methods 4 0 t at p old m₁ (read_methods (dictionary t) (read_expr operators n (dictionary t)) 4 (drop at t)) j q d
 
-  ended-core : (n j q d w : ℕ) (r : Step) → Methods n j q d → w ≡ wide k (c + digit_limit * d) → Closed t j m₁ o w q new r
+  ended-core : (n j q d w : ℕ) (r : Option Step) → Methods n j q d → w ≡ wide k (c + digit_limit * d) → Closed t j m₁ o w q new r
       → TookEnd k c t at p old o new (read_rest (dictionary t) (read_expr operators n (dictionary t)) (drop at t)) r
   unfolding TookEnd Closed read_rest
-  ended-core n j q d w (Done i l) x h z =
+  ended-core n j q d w (Some s) x h z =
       let b₁ = x.short in
       let f = x.far in
       let a₁ = x.ends in
@@ -204,33 +202,34 @@ module _ (t : Bytes) (at p o k c : ℕ) (old m₁ new : List ℕ) (b : Listed) (
         ends = omega arith;
         short = omega arith;
       }
-  ended-core n j q d w Bad x h z = rw x.is (rw z)
+  ended-core n j q d w None x h z = rw x.is (rw z)
 
-  pub ended-done : (j q d w : ℕ) (r : Step) → b ≡ Items j q d → w ≡ wide k (c + digit_limit * d) → Closed t j m₁ o w q new r → Ended k c t at p old o new r
+  pub ended-done : (b : Listed) (w : ℕ) (r : Option Step) → Lists wide_methods count_methods 4 0 (methods_from 0 t) t at p old m₁ (Some b)
+      → w ≡ wide k (c + digit_limit * b.count) → Closed t b.at m₁ o w b.out new r → Ended k c t at p old o new r
   unfolding Ended Lists TookList methods_from
-  ended-done j q d w r e h z n l = ended-core n j q d w r (rw e at (s n l)) h z
+  ended-done b w r s h z n l = ended-core n b.at b.out b.count w r (s n l) h z
 
-  pub ended-bad : b ≡ NoItems → Ended k c t at p old o new Bad
+  pub ended-bad : Lists wide_methods count_methods 4 0 (methods_from 0 t) t at p old m₁ None → Ended k c t at p old o new None
   unfolding Ended TookEnd Lists TookList methods_from read_rest
-  ended-bad e n l = let z = rw e at (s n l) in rw z
+  ended-bad s n l = let z = s n l in rw z
 
-module _ (t : Bytes) (at o : ℕ) (old m₁ new : List ℕ) (k : ℕ) (a : Listed) (u : Lists wide_fields count_fields 4 0 (fields_from 0 t) t at (o + 1) old m₁ a) where
+module _ (t : Bytes) (at o : ℕ) (old m₁ new : List ℕ) (k : ℕ) where
   abbrev Fields : ℕ → ℕ → ℕ → ℕ → Type 0
   Fields n i p c = ListRead wide_fields count_fields 4 0 t at (o + 1) old m₁ (read_fields (dictionary t) (read_expr operators n (dictionary t)) 4 (drop at t)) i p c
 
-  pub literal-bad : a ≡ NoItems → Reads (literal_words k) (literals t) t at o old new Bad
+  pub literal-bad : Lists wide_fields count_fields 4 0 (fields_from 0 t) t at (o + 1) old m₁ None → Reads (literal_words k) (literals t) t at o old new None
   unfolding Reads Took literals read_literal Lists TookList fields_from
-  literal-bad e n l = let z = rw e at (u n l) in rw z
+  literal-bad u n l = let z = u n l in rw z
 
   literals-is : (n i p c : ℕ) (x : Fields n i p c)
       → literals t n (drop at t) ≡ ◌>>=◌ {B = (SrcFields × SrcMethods) × Bytes} (read_rest (dictionary t) (read_expr operators n (dictionary t)) (drop i t)) (λ r. done ((x.value, r.0), r.1))
   unfolding literals read_literal read_rest
   literals-is n i p c x = rw x.is (simp bind_assoc)
 
-  literal-core : (n i p c : ℕ) (r : Step) → Fields n i p c → TookEnd k c t i p m₁ o new (read_rest (dictionary t) (read_expr operators n (dictionary t)) (drop i t)) r
+  literal-core : (n i p c : ℕ) (r : Option Step) → Fields n i p c → TookEnd k c t i p m₁ o new (read_rest (dictionary t) (read_expr operators n (dictionary t)) (drop i t)) r
       → Took (literal_words k) t at o old new (literals t n (drop at t)) r
   unfolding Took TookEnd literal_words
-  literal-core n i p c (Done j q) x y =
+  literal-core n i p c (Some s) x y =
       let b₁ = x.short in
       let b₂ = y.short in
       let f = x.far in
@@ -252,8 +251,9 @@ module _ (t : Bytes) (at o : ℕ) (old m₁ new : List ℕ) (k : ℕ) (a : Liste
         ends = omega (arith, length-append (wide_fields x.value) (wide_methods y.value));
         short = omega arith;
       }
-  literal-core n i p c Bad x y = literals-is n i p c x ∙ rw y
+  literal-core n i p c None x y = literals-is n i p c x ∙ rw y
 
-  pub literal-done : (i p c : ℕ) (r : Step) → a ≡ Items i p c → Ended k c t i p m₁ o new r → Reads (literal_words k) (literals t) t at o old new r
+  pub literal-done : (f : Listed) (r : Option Step) → Lists wide_fields count_fields 4 0 (fields_from 0 t) t at (o + 1) old m₁ (Some f)
+      → Ended k f.count t f.at f.out m₁ o new r → Reads (literal_words k) (literals t) t at o old new r
   unfolding Reads Ended Lists TookList fields_from
-  literal-done i p c r e v n l = let x = rw e at (u n l) in let f = x.far in literal-core n i p c r x (v n (omega arith))
+  literal-done f r u v n l = let x = u n l in let g = x.far in literal-core n f.at f.out f.count r x (v n (omega arith))

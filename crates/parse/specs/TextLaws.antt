@@ -4,6 +4,7 @@ use Rattle.std.proofs.Math.Path.{sym, ap}
 use Rattle.std.proofs.Common.{◌∙◌, rules, length-append, drop-cons}
 use Rattle.std.proofs.Math.Bool.{true, false}
 use Rattle.std.proofs.lemmas.Bool.{false≢true}
+use Rattle.std.specs.Prelude.{Option, Some, None}
 use Rattle.std.proofs.Math.Option.{none, some}
 use mathlib.Core.List.{List, [], ◌∷◌, ◌++◌, append-nil, append_assoc}
 use Prim.Native.Nat.{ℕ, suc, ◌+◌, ◌-◌, ◌≤◌, ◌<◌}
@@ -21,10 +22,8 @@ use Rattle.layout.specs.Pack.{flat}
 use Rattle.words.specs.Wide.{wide_line, wide_lines}
 use Rattle.scan.specs.Runs.{Starts}
 use Rattle.lexemes.specs.declared.scratch.Step.{Step}
-use Rattle.lexemes.specs.declared.scratch.Step.TheVariants as step
 use Rattle.parse.specs.declared.Parsed.{Parsed}
-use Rattle.parse.specs.declared.Parsed.TheVariants.{Done, Bad}
-use Rattle.lexemes.specs.DescentContract.{Place, Read, Took, Reads}
+use Rattle.lexemes.specs.DescentContract.{Read, Took, Reads}
 use Rattle.layout_laws.specs.Writes.{sets-append}
 use Rattle.parse.specs.Lines.{line_of}
 
@@ -44,9 +43,13 @@ pub record ParsedAs (t : Bytes) (out : List ℕ) (words lines : ℕ) : Type 0 wh
   pub counted : lines ≡ length script
   pub room : words ≤ 4096
 
-unfoldable pub Parses : Bytes → List ℕ → Parsed → Type 0
-Parses t out (Done w n) = ParsedAs t out w n
-Parses t out Bad = (read_script operators t >>= join) ≡ refused 2
+-- the answer of so many words and lines
+abbrev pub parsed_as : ℕ → ℕ → Option Parsed
+parsed_as w n = Some (record { words = w; lines = n })
+
+unfoldable pub Parses : Bytes → List ℕ → Option Parsed → Type 0
+Parses t out (Some p) = ParsedAs t out p.words p.lines
+Parses t out None = (read_script operators t >>= join) ≡ refused 2
 
 -- ---- the last line
 unfoldable pub is_expression : Line → Bool
@@ -151,9 +154,6 @@ module _ (t : Bytes) where
   }
 
   module _ (at o n : ℕ) (last : Bool) (out : List ℕ) (s : Lining t at o n last out) where
-    pub lining-place : length t ≤ 4096 → Place t at o
-    lining-place h = record { short = h; within = s.within; behind = s.behind }
-
     end-left : length t ≤ at → read_script operators t ≡ done s.lines
     unfolding read_lines
     end-left h =
@@ -162,7 +162,7 @@ module _ (t : Bytes) where
         let z : length t + 1 - n ≡ suc (length t - n) = omega arith in
         s.left ∙ rw (z, drop_of_length-le t h) (ap done (append-nil s.lines))
 
-    pub parsed-good : length t ≤ at → last ≡ true → length t ≤ 4096 → Parses t out (Done o n)
+    pub parsed-good : length t ≤ at → last ≡ true → length t ≤ 4096 → Parses t out (parsed_as o n)
     unfolding Parses
     parsed-good h e k =
         let j = join-good s.lines (sym s.well ∙ e) in
@@ -185,11 +185,11 @@ module _ (t : Bytes) where
         front : (l xs m : List ℕ) (k : ℕ) → m ≡ sets l 0 xs → k ≡ length xs → 0 + length xs ≤ length l → take k m ≡ xs
         front l xs m k p q h = rw (p, q, sets-eq xs l 0 h) (take-append_seam xs (drop (0 + length xs) l))
 
-    pub parsed-bad : length t ≤ at → last ≡ false → Parses t out Bad
+    pub parsed-bad : length t ≤ at → last ≡ false → Parses t out None
     unfolding Parses
     parsed-bad h e = rw (end-left h) (join-bad s.lines (sym s.well ∙ e))
 
-    module _ (new : List ℕ) (a : Step) (h : at < length t) (u : Reads wide_line (line_of t) t at o out new a) where
+    module _ (new : List ℕ) (h : at < length t) where
       fuel : length t + 1 - n ≡ suc (length t - n)
       fuel = let f = s.fewer in omega arith
 
@@ -198,19 +198,19 @@ module _ (t : Bytes) where
       unfolding read_lines
       next-line = rw (drop-cons t at 0 h)
 
-      pub lining-bad : (new' : List ℕ) → a ≡ step.Bad → Parses t new' Bad
+      pub lining-bad : (new' : List ℕ) (r : Option Parsed) → r ≡ None → Reads wide_line (line_of t) t at o out new None → Parses t new' r
       unfolding Parses Reads Took line_of
-      lining-bad new' e =
+      lining-bad new' r e u =
           let f = s.fewer in
-          let z = rw e at (u (suc (length t - n)) (omega arith)) in
-          rw (s.left, fuel, next-line, z)
+          let z = u (suc (length t - n)) (omega arith) in
+          rw e (rw (s.left, fuel, next-line, z))
 
       abbrev LineAt : ℕ → ℕ → Type 0
       LineAt i p = Read wide_line t at o out new (read_line operators (suc (length t - n)) (dictionary t) (drop at t)) i p
 
-      line_at : (i p : ℕ) → a ≡ step.Done i p → LineAt i p
+      line_at : (l : Step) → Reads wide_line (line_of t) t at o out new (Some l) → LineAt l.at l.out
       unfolding Reads Took line_of
-      line_at i p e = let f = s.fewer in rw e at (u (suc (length t - n)) (omega arith))
+      line_at l u = let f = s.fewer in u (suc (length t - n)) (omega arith)
 
       kind : (i p : ℕ) (b : Bool) (x : LineAt i p) → Closing t at b → b ≡ is_expression x.value
       unfolding Closing
@@ -249,12 +249,12 @@ module _ (t : Bytes) where
             well = kind i p b x c ∙ sym (ends_last s.lines x.value);
           }
 
-      pub lining-more : (i p : ℕ) (b : Bool) → a ≡ step.Done i p → Closing t at b → Lining t i p (n + 1) b new
-      lining-more i p b e c = more-core i p b (line_at i p e) c
+      pub lining-more : (l : Step) (b : Bool) → Reads wide_line (line_of t) t at o out new (Some l) → Closing t at b → Lining t l.at l.out (n + 1) b new
+      lining-more l b u c = more-core l.at l.out b (line_at l u) c
 
-pub lining-falls : (t : Bytes) (at o : ℕ) (old new : List ℕ) (a : Step) (i p : ℕ) → a ≡ step.Done i p → Reads wide_line (line_of t) t at o old new a → length t - i < length t - at
+pub lining-falls : (t : Bytes) (at o : ℕ) (old new : List ℕ) (l : Step) → Reads wide_line (line_of t) t at o old new (Some l) → length t - l.at < length t - at
 unfolding Reads Took
-lining-falls t at o old new a i p e s =
-    let r = rw e at (s (length t - at + 1) (omega arith)) in let f = r.far in let w = r.within in omega arith
+lining-falls t at o old new l s =
+    let r = s (length t - at + 1) (omega arith) in let f = r.far in let w = r.within in omega arith
 
-pub ruleset laws = (rules, lining-falls, closing-not, closing_so, lining-none, lining-place, parsed-good, parsed-bad, lining-bad, lining-more)
+pub ruleset laws = (rules, lining-falls, closing-not, closing_so, lining-none, parsed-good, parsed-bad, lining-bad, lining-more)

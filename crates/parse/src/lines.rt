@@ -1,128 +1,88 @@
 // Lines: an expression or a definition, with the end of the line; and all lines of a text.
-ghost use Rattle.std.specs.Prelude.{◌≡◌, ◌+◌, ◌≤◌, length};
+ghost use Rattle.std.specs.Prelude.{◌≤◌, ◌<◌, length};
 ghost use Rattle.words.specs.Wide.{wide_line};
 ghost use Rattle.parse.specs.TextLaws.{Closing, Parses};
-ghost use Rattle.lexemes.specs.Atoms.{Ready};
 ghost use Rattle.parse.specs.Lines.{LineEnd, definitions, sentences, line_of};
-ghost use Rattle.lexemes.specs.DescentContract.{Place, Reads};
+ghost use Rattle.lexemes.specs.DescentContract.{Reads};
 
 use crate::Parsed;
 use crate::forms::{expr, one};
-use lexemes::names::{Name, word_at};
 use lexemes::scratch::{Step, head};
+use lexemes::source::Source;
+use scan::kinds as kind;
 
 // The end of a line.
-fn newline(text: &[u8], at: usize, p: usize) -> Step
-    requires { at ≤ length text.now }
-    ensures { LineEnd text.now at p result }
+#[tactic(auto, using(crate::specs::Lines::laws))]
+fn newline(s: &Source, at: usize, p: usize) -> Option<Step>
+    requires { at ≤ length s.now.text.now }
+    ensures { LineEnd s.now.text.now at p result }
 {
-    if scan::starts(text, at, b"\n") {
-        return Step::Done(at + 1, p);
+    if scan::starts(s.text, at, b"\n") {
+        return Some(Step { at: at + 1, out: p });
     }
-    Step::Bad
+    None
 }
 
 // A definition behind its opening.
-fn definition(
-    text: &[u8],
-    at: usize,
-    low: &[u64],
-    high: &[u32],
-    count: usize,
-    out: &mut [u64],
-    o: usize,
-) -> Step
-    requires { Ready text.now low.now high.now count × Place text.now at (o + 1) × (length out.old ≡ 4096) }
-    ensures { Reads wide_line (definitions text.now) text.now at o out.old out.new result }
+#[tactic(auto, using(crate::specs::Lines::laws))]
+fn definition(s: &Source, at: usize, out: &mut [u64; 4096], o: usize) -> Option<Step>
+    requires { (o < at) × (at ≤ length s.now.text.now) }
+    ensures { Reads wide_line (definitions s.now.text.now) s.now.text.now at o out.old out.new result }
 {
-    let x = word_at(text, at, low, high, count);
-    match x {
-        Name::Word(y, i) => {
-            let a = one(text, i, low, high, count, out, o, head(130, y));
-            match a {
-                Step::Done(j, p) => newline(text, j, p),
-                Step::Bad => Step::Bad,
-            }
-        }
-        Name::NoWord => Step::Bad,
-    }
+    let x = s.word_at(at)?;
+    let e = one(s, x.end, out, o, head(kind::DEF, x.number))?;
+    newline(s, e.at, e.out)
 }
 
 // An expression as a line.
-fn sentence(
-    text: &[u8],
-    at: usize,
-    low: &[u64],
-    high: &[u32],
-    count: usize,
-    out: &mut [u64],
-    o: usize,
-) -> Step
-    requires { Ready text.now low.now high.now count × Place text.now at o × (length out.old ≡ 4096) }
-    ensures { Reads wide_line (sentences text.now) text.now at o out.old out.new result }
+#[tactic(auto, using(crate::specs::Lines::laws))]
+fn sentence(s: &Source, at: usize, out: &mut [u64; 4096], o: usize) -> Option<Step>
+    requires { (o ≤ at) × (at ≤ length s.now.text.now) }
+    ensures { Reads wide_line (sentences s.now.text.now) s.now.text.now at o out.old out.new result }
 {
-    let a = expr(text, at, low, high, count, out, o);
-    match a {
-        Step::Done(i, p) => newline(text, i, p),
-        Step::Bad => Step::Bad,
-    }
+    let e = expr(s, at, out, o)?;
+    newline(s, e.at, e.out)
 }
 
 // A line.
-fn line(
-    text: &[u8],
-    at: usize,
-    low: &[u64],
-    high: &[u32],
-    count: usize,
-    out: &mut [u64],
-    o: usize,
-) -> Step
-    requires { Ready text.now low.now high.now count × Place text.now at o × (length out.old ≡ 4096) }
-    ensures { Reads wide_line (line_of text.now) text.now at o out.old out.new result }
+#[tactic(auto, using(crate::specs::Lines::laws))]
+fn line(s: &Source, at: usize, out: &mut [u64; 4096], o: usize) -> Option<Step>
+    requires { (o ≤ at) × (at ≤ length s.now.text.now) }
+    ensures { Reads wide_line (line_of s.now.text.now) s.now.text.now at o out.old out.new result }
 {
-    if scan::starts(text, at, b"(def ") {
-        return definition(text, at + 5, low, high, count, out, o);
+    if scan::starts(s.text, at, b"(def ") {
+        return definition(s, at + 5, out, o);
     }
-    sentence(text, at, low, high, count, out, o)
+    sentence(s, at, out, o)
 }
 
 // Whether the line at `at` is an expression, on which a script may end.
-fn ends(text: &[u8], at: usize) -> bool
-    requires { at ≤ length text.now }
-    ensures { Closing text.now at result }
+#[tactic(auto, using(crate::specs::TextLaws::laws))]
+fn ends(s: &Source, at: usize) -> bool
+    requires { at ≤ length s.now.text.now }
+    ensures { Closing s.now.text.now at result }
 {
-    if scan::starts(text, at, b"(def ") {
-        return false;
-    }
-    true
+    !scan::starts(s.text, at, b"(def ")
 }
 
 // The lines of a text.
-pub fn lines(text: &[u8], low: &[u64], high: &[u32], count: usize, out: &mut [u64]) -> Parsed
-    requires { Ready text.now low.now high.now count × (length out.old ≡ 4096) }
-    ensures { Parses text.now out.new result }
+#[tactic(auto, using(crate::specs::TextLaws::laws))]
+pub fn lines(s: &Source, out: &mut [u64; 4096]) -> Option<Parsed>
+    ensures { Parses s.now.text.now out.new result }
 {
     let mut at = 0;
     let mut o = 0;
     let mut n = 0;
     let mut last = false;
-    while at < text.len() {
-        let a = line(text, at, low, high, count, out, o);
-        match a {
-            Step::Done(i, p) => {
-                last = ends(text, at);
-                at = i;
-                o = p;
-                n += 1;
-            }
-            Step::Bad => {
-                return Parsed::Bad;
-            }
-        }
+    while at < s.text.len() {
+        let l = line(s, at, out, o)?;
+        last = ends(s, at);
+        at = l.at;
+        o = l.out;
+        n += 1;
     }
     if last {
-        return Parsed::Done { words: o, lines: n };
+        return Some(Parsed { words: o, lines: n });
     }
-    Parsed::Bad
+    None
 }

@@ -1,27 +1,24 @@
--- The reserved words and their kinds. The code compares a run with those of its own length only, and a run that is none of them has the
--- kind 0. Assumes nothing.
-use Rattle.std.specs.Prelude.{◌≡◌, Bool, ◌&&◌, ◌||◌, get_or, take, if◌then◌else◌}
+-- The reserved words and their kinds. The code compares a run with those of its own length only. Assumes nothing.
+use Rattle.std.specs.Prelude.{◌≡◌, Bool, ◌&&◌, ◌||◌, leb, get_or, take, if◌then◌else◌, Option, Some, None, is_none}
 use Rattle.std.proofs.Math.Path.{refl, sym, ap}
 use Rattle.std.proofs.Common.{◌∙◌, rules, take-append-drop}
 use Rattle.std.proofs.Math.Bool.{true, false, not, cond}
 use Rattle.std.proofs.lemmas.Bool.{false≢true}
-use Rattle.std.proofs.Math.Option.{some}
 use mathlib.Core.List.{List, [], ◌∷◌, ◌++◌, map}
-use Prim.Native.Nat.{ℕ, zero, suc, ◌+◌, ◌-◌, ◌≤◌, ◌<◌}
+use Prim.Native.Nat.{ℕ, zero, suc, ◌-◌, ◌≤◌, ◌<◌}
 use Rattle.std.proofs.Math.Nat.{sub-zero, zero-sub, suc-sub-suc}
 use native.Mathlib.Omega.{arith}
 use borrow.Author.Tests.{lt-leb, le-leb, eq-eqb, ne_eqb}
 use Rattle.std.proofs.Math.Dec.{eqb}
 use Rattle.std.proofs.Math.ListN.{length, drop}
-use Rattle.std.proofs.Math.Seq.{slice, slice-cons, slice_empty, length-slice, take-append_seam, take-nil}
+use Rattle.std.proofs.Math.Seq.{slice, slice-cons, slice_empty, length-slice, take-nil}
 use Rattle.atlite.specs.Base.{Base, same_bytes, all}
 use Rattle.atlite.specs.Lexicon.{Bytes, is_letter, in_word, letter_first, among, is_word}
 use Rattle.atlite.specs.Keywords.{reserved}
-use Rattle.atlite.specs.Reader.{item, after}
-use Rattle.atlite_laws.specs.Facts.{and₂, same_true, same_refl, none-some}
+use Rattle.atlite.specs.Reader.{item}
+use Rattle.atlite_laws.specs.Facts.{and₂, same_true}
 use Rattle.decoding.specs.Kinds.{Words, keywords, kind_of, kind_in}
-use Rattle.reading.specs.Items.{after-whole}
-use Rattle.scan.specs.Runs.{Run, Starts, index, sized, Unlike, Sized, others}
+use Rattle.scan.specs.Runs.{Run, index, sized, Unlike, Sized, others, Kinded}
 
 -- ---- the comparison with given bytes
 pub slice-take : (at e : ℕ) (t : Bytes) → slice at e t ≡ take (e - at) (drop at t)
@@ -42,23 +39,6 @@ same_not v w n = go (same_bytes v w) refl
     go : (b : Bool) → same_bytes v w ≡ b → b ≡ false
     go true e = absurd (n (same_true v w e))
     go false e = refl
-
-after-self : (w j : Bytes) → after w (w ++ j) ≡ some j
-unfolding after
-after-self [] j = refl
-after-self (b ∷ w) j = rw (eq-eqb b b refl) (after-self w j)
-
-module _ (t : Bytes) (at e : ℕ) (w : Bytes) (h : (at ≤ e) × (e ≤ length t)) where
-  pub named-not : (e - at ≡ length w → ⊥) → false ≡ same_bytes w (slice at e t)
-  named-not n = sym (same_not w (slice at e t) (λ p. n (sym (length-slice at e t h.1) ∙ ap length (sym p))))
-
-  pub named-so : (r : Bool) → e - at ≡ length w → Starts t at w r → r ≡ same_bytes w (slice at e t)
-  unfolding Starts
-  named-so true l s =
-      let p = after-whole w (drop at t) _ s.0 in
-      sym (rw (slice-take at e t, l, ← p, take-append_seam) (same_refl w))
-  named-so false l s =
-      sym (same_not w (slice at e t) (λ p. none-some (sym s ∙ ap (after w) (sym (slice-drop at e t h.0) ∙ ap (λ (v : Bytes). v ++ drop e t) (sym p)) ∙ after-self w (drop e t))))
 
 -- ---- places
 module _ (w : Bytes) where
@@ -136,9 +116,9 @@ module _ (w : Bytes) where
   unlike v r h e = sym h ∙ e
 
   -- a word of the list
-  pub keyword-so : (v : Bytes) (k : ℕ) (r : Bool) → r ≡ same_bytes v w → r ≡ true → kind_of keywords v ≡ k → k ≡ kind_in w
-  unfolding kind_in
-  keyword-so v k r h e i = sym i ∙ ap (kind_of keywords) (same_true v w (sym h ∙ e))
+  pub keyword-so : (v : Bytes) (k : ℕ) (r : Bool) → r ≡ same_bytes v w → r ≡ true → kind_of keywords v ≡ k → 0 < k → Kinded w (Some k)
+  unfolding kind_in Kinded
+  keyword-so v k r h e i l = (sym i ∙ ap (kind_of keywords) (same_true v w (sym h ∙ e)), l)
 
   -- a kind that none of the entries has is not the word's
   pub kind-absent : (k : ℕ) (rs : List (Bytes × ℕ)) → absent k rs ≡ true → eqb k (kind_of rs w) ≡ false
@@ -167,8 +147,8 @@ module _ (w : Bytes) where
   kind-none = among-kind keywords keywords-distinct
 
   -- none of the words of its length
-  pub keyword-not : (p : ℕ → Bool) → p (length w) ≡ true → Unlike (sized p keywords) w → 0 ≡ kind_in w
-  unfolding kind_in
+  pub keyword-not : (p : ℕ → Bool) → p (length w) ≡ true → Unlike (sized p keywords) w → Kinded w None
+  unfolding kind_in Kinded
   keyword-not p l u = sym (sym (by_length w p l keywords) ∙ unlike-none w (sized p keywords) u)
 
 pub slice-sized : (p : ℕ → Bool) (t : Bytes) (at e : ℕ) → Sized p t at e → p (length (slice at e t)) ≡ true
@@ -223,11 +203,18 @@ module _ (t : Bytes) (at e : ℕ) (h : Run t at e) where
   unfolding is_word
   word_first r n p q = rw (first n ∙ sym p ∙ q)
 
-  pub word-so : (r : Bool) (k : ℕ) → (e ≡ at → ⊥) → e - at ≤ 12 → r ≡ is_letter (get_or t at 0) → r ≡ true
-      → k ≡ kind_in (slice at e t) → eqb k 0 ≡ is_word (slice at e t)
-  unfolding is_word
-  word-so r k n l p q i =
-      let m = length-slice at e t h.within in
-      rw (first n ∙ sym p ∙ q, run-all, le-leb (length (slice at e t)) 12 (omega arith), i) (kind-none (slice at e t))
+  pub word-so : (r : Bool) (k : Option ℕ) → (e ≡ at → ⊥) → e - at ≤ 12 → r ≡ is_letter (get_or t at 0) → r ≡ true
+      → Kinded (slice at e t) k → is_none k ≡ is_word (slice at e t)
+  unfolding is_word Kinded
+  word-so r k n l p q i = go k i ∙ rest
+    where
+      rest : eqb (kind_in (slice at e t)) 0 ≡ (letter_first (slice at e t) && all in_word (slice at e t) && leb (length (slice at e t)) 12 && not (among reserved (slice at e t)))
+      rest =
+          let m = length-slice at e t h.within in
+          rw (first n ∙ sym p ∙ q, run-all, le-leb (length (slice at e t)) 12 (omega arith)) (kind-none (slice at e t))
 
-pub ruleset laws = (rules, named-not, named-so, unlike, keyword-so, slice-sized, sized-so, sized-others, word-empty, word-long, word_first, word-so)
+      go : (k : Option ℕ) → Kinded (slice at e t) k → is_none k ≡ eqb (kind_in (slice at e t)) 0
+      go (Some k) i = let a = i.0 in let b = i.1 in sym (ne_eqb (kind_in (slice at e t)) 0 (λ z. omega arith))
+      go None i = rw (← i)
+
+pub ruleset laws = (rules, unlike, keyword-so, slice-sized, sized-so, sized-others, word-empty, word-long, word_first, word-so)

@@ -1,122 +1,121 @@
--- The tests of bytes, the end of a run and the comparison with given bytes answer as they should: one law for each way to
--- return, and for each turn of a loop. Assumes nothing.
-use Rattle.std.specs.Prelude.{◌≡◌, refl, Bool, true, false, [], ◌∷◌, ◌++◌, ℕ, ◌+◌, ◌-◌, ◌≤◌, ◌<◌, eqb, leb, get_or, take, drop, if◌then◌else◌}
-use Rattle.std.proofs.Common.{sym, ap, ◌∙◌, append_assoc, append-nil, add-zero, add-one, rules, drop_of_length-le, length-take-le, take-suc, drop-cons}
-use Rattle.std.proofs.Math.Option.{none}
-use native.Mathlib.Omega.{arith}
-use borrow.Author.Tests.{lt-leb, le-leb, eq-eqb, ne_eqb}
-use Rattle.std.proofs.Math.ListN.{length, length-drop}
-use Rattle.std.proofs.Math.Seq.{slice, slice_empty}
-use Rattle.std.proofs.lemmas.List.{drop-append-le}
-use Rattle.atlite.specs.Lexicon.{Bytes, is_letter, is_digit, in_word}
+-- The end of a run, and the comparison with given bytes, answer as they should: what the library's functions say of lists, in the words of
+-- the reader. Assumes nothing.
+use Rattle.std.specs.Prelude.{◌≡◌, refl, Bool, true, false, not, cond, ◌&&◌, ltb, [], ◌∷◌, ℕ, suc, ◌+◌, ◌-◌, ◌≤◌, eqb, length, take, drop, if◌then◌else◌, Some, None}
+use Rattle.std.specs.List.{position, position_or_len, starts_with}
+use Rattle.std.specs.Cmp.Lexicographic.{pointwise}
+use Rattle.std.proofs.Common.{sym, ap, ◌∙◌, arith, rules, drop_of_length-le, length-drop, drop-drop, take_all, one-add}
+use Rattle.std.proofs.Math.Option.{none, some}
+use Rattle.std.proofs.Common.{ltb-false}
+use Rattle.std.proofs.Math.Seq.{slice}
+use Rattle.atlite.specs.Base.{same_bytes}
+use Rattle.atlite.specs.Lexicon.{Bytes, in_word}
 use Rattle.atlite.specs.Reader.{item, after}
-use Rattle.reading.specs.Items.{item_in, item_out}
-use Rattle.scan.specs.Runs.{Run, Passed, Starts, Begun}
+use Rattle.scan.specs.Runs.{Run, Starts}
+use Rattle.scan.specs.Keywords.{slice-take}
 
--- ---- bytes
-module _ (b : ℕ) where
-  pub letter-low : b < 97 → false ≡ is_letter b
-  unfolding is_letter
-  letter-low h = rw (lt-leb 97 b h)
+-- the text from `at` on, as the code cuts it
+abbrev pub behind : Bytes → ℕ → Bytes
+behind t at = take (length t - at) (drop at t)
 
-  pub letter-high : 97 ≤ b → leb b 122 ≡ is_letter b
-  unfolding is_letter
-  letter-high h = rw (le-leb 97 b h)
-
-  pub digit_low : b < 48 → false ≡ is_digit b
-  unfolding is_digit
-  digit_low h = rw (lt-leb 48 b h)
-
-  pub digit-high : 48 ≤ b → leb b 57 ≡ is_digit b
-  unfolding is_digit
-  digit-high h = rw (le-leb 48 b h)
-
-  pub word-letter : (r : Bool) → r ≡ is_letter b → r ≡ true → true ≡ in_word b
-  unfolding in_word
-  word-letter r h k = rw (sym h ∙ k)
-
-  pub word-digit : (r d : Bool) → r ≡ is_letter b → r ≡ false → d ≡ is_digit b → d ≡ in_word b
-  unfolding in_word
-  word-digit r d h k e = rw (sym h ∙ k) e
+behind-is : (t : Bytes) (at : ℕ) → behind t at ≡ drop at t
+behind-is t at = take_all (length t - at) (drop at t) (omega (arith, length-drop at t))
 
 -- ---- runs
-pub slice_snoc : (t : Bytes) (at i : ℕ) → at ≤ i → i < length t → slice at (i + 1) t ≡ slice at i t ++ (get_or t i 0 ∷ [])
-slice_snoc t at i h k =
-    let l = length-take-le i t (omega arith) in
-    rw (add-one i, take-suc t i 0 k) (drop-append-le at (take i t) (get_or t i 0 ∷ []) (omega arith))
+-- what is no letter and no digit
+abbrev pub outside : ℕ → Bool
+outside b = not (in_word b)
 
-pub next : (t : Bytes) (i : ℕ) → i < length t → drop i t ≡ get_or t i 0 ∷ drop (i + 1) t
-next t i h = rw add-one (drop-cons t i 0 h)
-
-item-none : (i : Bytes) → i ≡ [] → item i ≡ ([], [])
+item-take : (w : Bytes) → (item w).0 ≡ take (position_or_len outside w) w
 unfolding item
-item-none i e = rw e
+item-take [] = refl
+item-take (b ∷ w) = go (in_word b) (item-take w)
+  where
+    go : (c : Bool) → (item w).0 ≡ take (position_or_len outside w) w
+        → (elim c as (λ d. Bytes × Bytes) [ true ↦ (b ∷ (item w).0, (item w).1) | false ↦ ([], b ∷ w) ]).0 ≡ take (cond (not (not c)) (1 + position_or_len outside w) 0) (b ∷ w)
+    go true e = rw one-add (ap (λ (v : Bytes). b ∷ v) e)
+    go false e = refl
 
-module _ (t : Bytes) (at : ℕ) where
-  pub passed_none : at ≤ length t → Passed t at at
-  passed_none h = record { from = omega arith; within = h; is = rw slice_empty; rest = refl }
+item-drop : (w : Bytes) → (item w).1 ≡ drop (position_or_len outside w) w
+unfolding item
+item-drop [] = refl
+item-drop (b ∷ w) = go (in_word b) (item-drop w)
+  where
+    go : (c : Bool) → (item w).1 ≡ drop (position_or_len outside w) w
+        → (elim c as (λ d. Bytes × Bytes) [ true ↦ (b ∷ (item w).0, (item w).1) | false ↦ ([], b ∷ w) ]).1 ≡ drop (cond (not (not c)) (1 + position_or_len outside w) 0) (b ∷ w)
+    go true e = rw one-add e
+    go false e = refl
 
-  module _ (i : ℕ) (p : Passed t at i) where
-    pub passed-more : (r : Bool) → i < length t → r ≡ in_word (get_or t i 0) → r ≡ true → Passed t at (i + 1)
-    passed-more r h e k =
-        let s : item (drop i t) ≡ (get_or t i 0 ∷ (item (drop (i + 1) t)).0, (item (drop (i + 1) t)).1) = ap item (next t i h) ∙ item_in _ _ (sym e ∙ k) in
-        record {
-          from = omega (arith, p.from);
-          within = omega arith;
-          is = p.is ∙ rw (s, slice_snoc t at i p.from h) (sym (append_assoc (slice at i t) (get_or t i 0 ∷ []) (item (drop (i + 1) t)).0));
-          rest = p.rest ∙ ap (λ (r : Bytes × Bytes). r.1) s;
-        }
+outside-within : (w : Bytes) → position_or_len outside w ≤ length w
+outside-within [] = omega arith
+outside-within (b ∷ w) = go (in_word b) (outside-within w)
+  where
+    go : (c : Bool) → position_or_len outside w ≤ length w → cond (not (not c)) (1 + position_or_len outside w) 0 ≤ suc (length w)
+    go true h = omega arith
+    go false h = omega arith
 
-    run-here : item (drop i t) ≡ ([], drop i t) → Run t at i
-    run-here s = record { from = p.from; within = p.within; is = p.is ∙ rw s (append-nil _); rest = p.rest ∙ ap (λ (r : Bytes × Bytes). r.1) s }
+module _ (t : Bytes) (at : ℕ) (h : at ≤ length t) where
+  run-here : (n : ℕ) → position_or_len outside (drop at t) ≡ n → Run t at (at + n)
+  run-here n e =
+      let l = outside-within (drop at t) in
+      let z : at + n - at ≡ n = omega arith in
+      record {
+        from = omega arith;
+        within = omega (arith, length-drop at t);
+        is = item-take (drop at t) ∙ rw (e, slice-take at (at + n) t, z);
+        rest = item-drop (drop at t) ∙ rw e (drop-drop n at t);
+      }
 
-    pub run-stop : (r : Bool) → i < length t → r ≡ in_word (get_or t i 0) → r ≡ false → Run t at i
-    run-stop r h e k = run-here (rw (next t i h) (item_out _ _ (sym e ∙ k)))
+  found : (b : Bool) (m n : ℕ) → cond b (Some m) None ≡ Some n → m ≡ n
+  found true m n e = cc
+  found false m n e = absurd (let z : ◌≡◌ {A = ℕ} 0 1 = cc in omega arith)
 
-    pub run-last : length t ≤ i → Run t at i
-    run-last h = let e = drop_of_length-le t h in run-here (item-none _ e ∙ rw e)
+  pub run-stop : (n : ℕ) → Some n ≡ position outside (behind t at) → Run t at (at + n)
+  run-stop n e = let z = rw behind-is at e in run-here n (found _ _ n (sym z))
+
+  lost : (m : ℕ) → cond (ltb m (length (drop at t))) (Some m) None ≡ None → length (drop at t) ≤ m
+  lost m e = go (ltb m (length (drop at t))) refl e
+    where
+      go : (b : Bool) → ltb m (length (drop at t)) ≡ b → cond b (Some m) None ≡ None → length (drop at t) ≤ m
+      go true p q = absurd (let z : ◌≡◌ {A = ℕ} 0 1 = cc in omega arith)
+      go false p q = ltb-false m (length (drop at t)) p
+
+  pub run-last : None ≡ position outside (behind t at) → Run t at (length t)
+  run-last d =
+      let e = rw behind-is at d in
+      let l = outside-within (drop at t) in
+      let k = lost _ (sym e) in
+      let z : at + (length t - at) ≡ length t = omega arith in
+      rw z at (run-here (length t - at) (omega (arith, length-drop at t)))
 
 -- ---- given bytes
-after-short : (w i : Bytes) → length i < length w → after w i ≡ none
+pub same-pointwise : (v w : Bytes) → pointwise eqb v w ≡ same_bytes v w
+unfolding same_bytes
+same-pointwise [] [] = refl
+same-pointwise [] (c ∷ w) = refl
+same-pointwise (b ∷ v) [] = refl
+same-pointwise (b ∷ v) (c ∷ w) = ap (λ r. eqb b c && r) (same-pointwise v w)
+
+after-pointwise : (w i : Bytes) → after w i ≡ (if pointwise eqb w (take (length w) i) then some (drop (length w) i) else none)
 unfolding after
-after-short [] i h = absurd (omega arith)
-after-short (b ∷ w) [] h = refl
-after-short (b ∷ w) (c ∷ i) h = go (eqb b c) (after-short w i (omega arith))
+after-pointwise [] i = refl
+after-pointwise (b ∷ w) [] = refl
+after-pointwise (b ∷ w) (c ∷ i) = go (eqb b c) (after-pointwise w i)
   where
-    go : (r : Bool) → after w i ≡ none → (if r then after w i else none) ≡ none
+    go : (r : Bool) → after w i ≡ (if pointwise eqb w (take (length w) i) then some (drop (length w) i) else none)
+        → (if r then after w i else none) ≡ (if (r && pointwise eqb w (take (length w) i)) then some (drop (length w) i) else none)
     go true e = e
     go false e = refl
 
 module _ (t : Bytes) (at : ℕ) (w : Bytes) where
-  pub starts-short : at ≤ length t → length t - at < length w → Starts t at w false
+  cut : (r : Bool) → at ≤ length t → (r ≡ true → length w ≤ length (drop at t)) → r ≡ starts_with eqb (drop at t) w → Starts t at w r
   unfolding Starts
-  starts-short h k = after-short w (drop at t) (omega (arith, length-drop at t))
+  cut true h l e = (after-pointwise w (drop at t) ∙ rw (← e) (ap some (drop-drop (length w) at t)), omega (arith, l refl, length-drop at t))
+  cut false h l e = after-pointwise w (drop at t) ∙ rw (← e)
 
-  pub begun-none : at ≤ length t → length w ≤ length t - at → Begun t at w 0
-  begun-none h k = record { within = omega arith; room = omega arith; is = rw (add-zero at) }
+  pub starts-as : (r : Bool) → at ≤ length t → (r ≡ true → length w ≤ length (behind t at)) → r ≡ starts_with eqb (behind t at) w → Starts t at w r
+  starts-as r h l e = let m = rw behind-is at l in let z = rw behind-is at e in cut r h m z
 
-  module _ (i : ℕ) (p : Begun t at w i) where
-    pub begun_more : i < length w → get_or t (at + i) 0 ≡ get_or w i 0 → Begun t at w (i + 1)
-    unfolding after
-    begun_more h e =
-        let l = p.room in
-        let a : at + (i + 1) ≡ at + i + 1 = omega arith in
-        record {
-          within = omega arith;
-          room = l;
-          is = p.is ∙ rw (next w i h, next t (at + i) (omega arith), a, eq-eqb (get_or w i 0) (get_or t (at + i) 0) (sym e));
-        }
+pub named-as : (t : Bytes) (at e : ℕ) (w : Bytes) (r : Bool) → r ≡ pointwise eqb w (take (e - at) (drop at t)) → r ≡ same_bytes w (slice at e t)
+named-as t at e w r h = h ∙ same-pointwise w (take (e - at) (drop at t)) ∙ ap (same_bytes w) (sym (slice-take at e t))
 
-    pub starts-not : i < length w → (get_or t (at + i) 0 ≡ get_or w i 0 → ⊥) → Starts t at w false
-    unfolding Starts after
-    starts-not h n =
-        let l = p.room in
-        p.is ∙ rw (next w i h, next t (at + i) (omega arith), ne_eqb (get_or w i 0) (get_or t (at + i) 0) (λ e. n (sym e)))
-
-    pub starts-so : length w ≤ i → Starts t at w true
-    unfolding Starts after
-    starts-so h =
-        let e : i ≡ length w = omega (arith, p.within) in
-        (p.is ∙ rw (drop_of_length-le w h, e), p.room)
-
-pub ruleset laws = (rules, letter-low, letter-high, digit_low, digit-high, word-letter, word-digit, passed_none, passed-more, run-stop, run-last, starts-short, begun-none, begun_more, starts-not, starts-so)
+pub ruleset laws = (rules, run-stop, run-last, starts-as, named-as)

@@ -1,6 +1,6 @@
 -- The numbers of words: computed from the last byte to the first, split at 2^64, and different for different words.
 -- Assumes nothing.
-use Rattle.std.specs.Prelude.{◌≡◌, refl, Bool, true, false, ◌&&◌, ◌||◌, List, [], ◌∷◌, ◌++◌, eqb, leb, take, drop, if◌then◌else◌}
+use Rattle.std.specs.Prelude.{◌≡◌, refl, Bool, true, false, ◌&&◌, ◌||◌, List, [], ◌∷◌, ◌++◌, eqb, leb, take, drop}
 use Rattle.std.proofs.Math.Path.{sym, ap}
 use Rattle.std.proofs.Common.{ap₂, ◌∙◌, add-zero, mul_assoc, add-one, rules, drop_of_length-le, take-take, drop-cons, Fits}
 use Rattle.std.proofs.Math.Bool.{false≢true}

@@ -2,114 +2,120 @@
 ghost use Rattle.std.specs.Prelude.{◌≡◌, ◌≤◌, eqb, length};
 ghost use Rattle.std.proofs.Math.Seq.{slice};
 ghost use Rattle.atlite.specs.Lexicon.{is_word};
-ghost use Rattle.decoding.specs.Kinds.{kind_in};
-ghost use Rattle.scan.specs.Runs.{Run, Sized, others};
+ghost use Rattle.scan.specs.Runs.{Run, Sized, others, Kinded};
 
 use crate::bytes::{is_letter, named};
+use crate::kinds;
 
-// The kinds of the reserved words, by length, 0 for none: first those of three letters. A new word is a line.
-fn three(text: &[u8], at: usize, end: usize) -> u8
+// The kinds of the reserved words, by length: first those of three letters. A new word is a line. A kind stays the number that a head word and
+// the table of kinds take it as: an enum would be turned into it at each use.
+#[tactic(auto, using(crate::specs::Keywords::laws))]
+fn three(text: &[u8], at: usize, end: usize) -> Option<u8>
     requires { Sized (eqb 3) text.now at end }
-    ensures { result ≡ kind_in (slice at end text.now) }
+    ensures { Kinded (slice at end text.now) result }
 {
     if named(text, at, end, b"get") {
-        return 9;
+        return Some(kinds::GET);
     }
     if named(text, at, end, b"set") {
-        return 10;
+        return Some(kinds::SET);
     }
     if named(text, at, end, b"ask") {
-        return 64;
+        return Some(kinds::ASK);
     }
     if named(text, at, end, b"let") {
-        return 11;
+        return Some(kinds::LET);
     }
     if named(text, at, end, b"seq") {
-        return 68;
+        return Some(kinds::SEQ);
     }
     if named(text, at, end, b"def") {
-        return 130;
+        return Some(kinds::DEF);
     }
-    0
+    None
 }
 
-fn four(text: &[u8], at: usize, end: usize) -> u8
+#[tactic(auto, using(crate::specs::Keywords::laws))]
+fn four(text: &[u8], at: usize, end: usize) -> Option<u8>
     requires { Sized (eqb 4) text.now at end }
-    ensures { result ≡ kind_in (slice at end text.now) }
+    ensures { Kinded (slice at end text.now) result }
 {
     if named(text, at, end, b"plus") {
-        return 7;
+        return Some(kinds::PLUS);
     }
     if named(text, at, end, b"call") {
-        return 13;
+        return Some(kinds::CALL);
     }
     if named(text, at, end, b"send") {
-        return 14;
+        return Some(kinds::SEND);
     }
     if named(text, at, end, b"when") {
-        return 67;
+        return Some(kinds::WHEN);
     }
     if named(text, at, end, b"null") {
-        return 1;
+        return Some(kinds::NULL);
     }
     if named(text, at, end, b"this") {
-        return 6;
+        return Some(kinds::THIS);
     }
     if named(text, at, end, b"same") {
-        return 18;
+        return Some(kinds::SAME);
     }
-    0
+    None
 }
 
-fn seven(text: &[u8], at: usize, end: usize) -> u8
+#[tactic(auto, using(crate::specs::Keywords::laws))]
+fn seven(text: &[u8], at: usize, end: usize) -> Option<u8>
     requires { Sized (eqb 7) text.now at end }
-    ensures { result ≡ kind_in (slice at end text.now) }
+    ensures { Kinded (slice at end text.now) result }
 {
     if named(text, at, end, b"percent") {
-        return 8;
+        return Some(kinds::PERCENT);
     }
     if named(text, at, end, b"resolve") {
-        return 66;
+        return Some(kinds::RESOLVE);
     }
     if named(text, at, end, b"isolate") {
-        return 16;
+        return Some(kinds::ISOLATE);
     }
-    0
+    None
 }
 
 // Those of other lengths.
-fn other(text: &[u8], at: usize, end: usize) -> u8
+#[tactic(auto, using(crate::specs::Keywords::laws))]
+fn other(text: &[u8], at: usize, end: usize) -> Option<u8>
     requires { Sized others text.now at end }
-    ensures { result ≡ kind_in (slice at end text.now) }
+    ensures { Kinded (slice at end text.now) result }
 {
     if named(text, at, end, b"future") {
-        return 12;
+        return Some(kinds::FUTURE);
     }
     if named(text, at, end, b"fn") {
-        return 65;
+        return Some(kinds::FN);
     }
     if named(text, at, end, b"object") {
-        return 15;
+        return Some(kinds::OBJECT);
     }
     if named(text, at, end, b"actor") {
-        return 17;
+        return Some(kinds::ACTOR);
     }
     if named(text, at, end, b"field") {
-        return 128;
+        return Some(kinds::FIELD);
     }
     if named(text, at, end, b"method") {
-        return 192;
+        return Some(kinds::METHOD);
     }
     if named(text, at, end, b"if") {
-        return 19;
+        return Some(kinds::IF);
     }
-    0
+    None
 }
 
-// The kind of the reserved word from `at` to `end`, or 0.
-pub fn keyword(text: &[u8], at: usize, end: usize) -> u8
+// The kind of the reserved word from `at` to `end`.
+#[tactic(auto, using(crate::specs::Keywords::laws))]
+pub fn keyword(text: &[u8], at: usize, end: usize) -> Option<u8>
     requires { (at ≤ end) × (end ≤ length text.now) }
-    ensures { result ≡ kind_in (slice at end text.now) }
+    ensures { Kinded (slice at end text.now) result }
 {
     if end - at == 3 {
         return three(text, at, end);
@@ -124,18 +130,13 @@ pub fn keyword(text: &[u8], at: usize, end: usize) -> u8
 }
 
 // Whether a run is a word of a script's own.
+#[tactic(auto, using(crate::specs::Keywords::laws))]
 pub fn is_word(text: &[u8], at: usize, end: usize) -> bool
     requires { Run text.now at end }
     ensures { result ≡ is_word (slice at end text.now) }
 {
-    if end == at {
+    if end == at || 12 < end - at || !is_letter(text[at]) {
         return false;
     }
-    if 12 < end - at {
-        return false;
-    }
-    if is_letter(text[at]) {
-        return keyword(text, at, end) == 0;
-    }
-    false
+    keyword(text, at, end).is_none()
 }

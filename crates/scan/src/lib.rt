@@ -11,6 +11,7 @@ ghost use Rattle.scan.specs.WordNumbers.{Noted, Dictionary};
 mod bytes;
 mod codes;
 mod keywords;
+pub mod kinds;
 
 pub use bytes::{is_digit, named, run_end, starts};
 pub use codes::{find, high_part, low_part};

@@ -1,14 +1,12 @@
 -- What the parser's answer means for the reader: a script whose lines stand in the scratch words, or cause 2. Assumes nothing.
-use Rattle.std.specs.Prelude.{ℕ, ◌≤◌, ◌≡◌, Bool, Err, List, length}
-use Rattle.std.proofs.Math.Path.{subst as transp}
+use Rattle.std.specs.Prelude.{ℕ, ◌≤◌, ◌≡◌, Bool, Err, List, length, Some, None}
 use Rattle.std.proofs.Common.{arith, rules}
 use Rattle.atlite.specs.Lexicon.{dictionary}
 use Rattle.atlite.specs.declared.Cause.TheVariants as C
 use Rattle.layout.specs.Numbers.{table_words}
 use Rattle.scan.specs.WordNumbers.{Holds, Dictionary}
 use Rattle.parse.specs.declared.Parsed.{Parsed}
-use Rattle.parse.specs.declared.Parsed.TheVariants.{Done, Bad}
-use Rattle.parse.specs.TextLaws.{ParsedAs, Parses}
+use Rattle.parse.specs.TextLaws.{Parses}
 use Rattle.script.specs.ReadContract.{Reads, no_room, no_text, long-text, no-script}
 use Rattle.script.specs.ReaderCauses.{Sized, Grammar, rows-within}
 
@@ -20,11 +18,10 @@ module _ (t old : List ℕ) where
   pub known-few : (low high : List ℕ) (count : ℕ) (apply : Bool) → Dictionary t low high count apply → count ≤ 2048
   known-few low high count apply d = d.room
 
-  pub parsed : (s low high : List ℕ) (words lines count : ℕ) (apply : Bool) (r : Parsed) → Sized t old → Dictionary t low high count apply
-      → Parses t s r → r ≡ Done words lines → Grammar t old s low high words lines count apply
+  pub parsed : (s low high : List ℕ) (count : ℕ) (apply : Bool) (p : Parsed) → Sized t old → Dictionary t low high count apply
+      → Parses t s (Some p) → Grammar t old s low high p.words p.lines count apply
   unfolding Parses
-  parsed s low high words lines count apply r z d p e =
-      let q : ParsedAs t s words lines = transp (Parses t s) e p in
+  parsed s low high count apply p z d q =
       record {
         room = z.room;
         some = z.some;
@@ -39,9 +36,9 @@ module _ (t old : List ℕ) where
         rows = omega (arith, q.counted, q.used, q.room, rows-within q.script);
       }
 
-  pub unparsed : (s : List ℕ) (r : Parsed) → Sized t old → Parses t s r → r ≡ Bad → Reads t old (Err C.Grammar) old
+  pub unparsed : (s : List ℕ) → Sized t old → Parses t s None → Reads t old (Err C.Grammar) old
   unfolding Parses
-  unparsed s r z p e = no-script t old z.room z.some z.short (transp (Parses t s) e p)
+  unparsed s z p = no-script t old z.room z.some z.short p
 
   pub sized : table_words ≤ length old → (length t ≡ 0 → ⊥) → length t ≤ 4096 → Sized t old
   sized a b c = record { room = a; some = b; short = c }

@@ -8,7 +8,7 @@ ghost use Rattle.script.specs.ReaderCauses.{Sized, Grammar, Scoped, Sound};
 use crate::TEXT;
 use atlite::Cause;
 use layout::TABLE;
-use parse::Parsed;
+use parse::Source;
 
 // How many different words the text has.
 fn known(count: usize, apply: bool) -> usize
@@ -101,13 +101,16 @@ fn grammar(text: &[u8], table: &mut [u32]) -> Result<(), Cause>
     let count = found.count;
     let apply = found.apply;
     let mut s = [0u64; 4096];
-    let parsed = parse::parse(text, &low, &high, count, &mut s);
-    match parsed {
-        Parsed::Done { words, lines } => {
-            scopes(text, &s, words, lines, &low, &high, count, apply, table)
-        }
-        Parsed::Bad => Err(Cause::Grammar),
-    }
+    let source = Source {
+        text,
+        low: &low,
+        high: &high,
+        count,
+    };
+    let Some(p) = parse::parse(&source, &mut s) else {
+        return Err(Cause::Grammar);
+    };
+    scopes(text, &s, p.words, p.lines, &low, &high, count, apply, table)
 }
 
 // Lengths, and what comes after them.

@@ -2,159 +2,104 @@
 ghost use Rattle.std.specs.Prelude.{◌≡◌, ◌+◌, ◌≤◌, ◌<◌, length};
 ghost use Rattle.atlite.specs.Table.{count_fields, count_methods};
 ghost use Rattle.words.specs.Wide.{wide_fields, wide_methods};
-ghost use Rattle.lexemes.specs.Atoms.{Ready};
-ghost use Rattle.lexemes.specs.DescentContract.{Place, Ended, Reads, Lists, literals, literal_words, fields_from, field_at, methods_from, method_at};
+ghost use Rattle.lexemes.specs.DescentContract.{Ended, Reads, Lists, literals, literal_words, fields_from, field_at, methods_from, method_at};
 
 use crate::forms::one;
-use lexemes::headers::{Header, method_head};
-use lexemes::names::{Name, word_at};
 use lexemes::scratch::{Listed, Step, close, head, literal_head};
+use lexemes::source::Source;
+use scan::kinds as kind;
 
 // Fields and methods.
 #[cycle(expressions)]
-pub fn literal(
-    text: &[u8],
-    at: usize,
-    low: &[u64],
-    high: &[u32],
-    count: usize,
-    out: &mut [u64],
-    o: usize,
-    k: u8,
-) -> Step
-    requires { Ready text.now low.now high.now count × Place text.now at (o + 1) × (length out.old ≡ 4096) }
-    ensures { Reads (literal_words k) (literals text.now) text.now at o out.old out.new result }
+#[tactic(auto, using(crate::specs::Cycle::literal_laws))]
+pub fn literal(s: &Source, at: usize, out: &mut [u64; 4096], o: usize, k: u8) -> Option<Step>
+    requires { (o < at) × (at ≤ length s.now.text.now) }
+    ensures { Reads (literal_words k) (literals s.now.text.now) s.now.text.now at o out.old out.new result }
 {
-    let a = fields(text, at, low, high, count, out, o + 1, 0);
-    match a {
-        Listed::Items(i, p, c) => bodies(text, i, low, high, count, out, o, p, k, c),
-        Listed::NoItems => Step::Bad,
-    }
+    let f = fields(s, at, out, o + 1, 0)?;
+    bodies(s, f.at, out, o, f.out, k, f.count)
 }
 
 // The methods of a literal with `c` fields and its closing bracket, with their words at `p` and the head word's place at `o`.
 #[cycle(expressions)]
+#[tactic(auto, using(crate::specs::Cycle::bodies_laws))]
 fn bodies(
-    text: &[u8],
+    s: &Source,
     at: usize,
-    low: &[u64],
-    high: &[u32],
-    count: usize,
-    out: &mut [u64],
+    out: &mut [u64; 4096],
     o: usize,
     p: usize,
     k: u8,
     c: usize,
-) -> Step
-    requires { Ready text.now low.now high.now count × Place text.now at p × (length out.old ≡ 4096) × (o < 4096) × (c ≤ 4) }
-    ensures { Ended k c text.now at p out.old o out.new result }
+) -> Option<Step>
+    requires { (p ≤ at) × (at ≤ length s.now.text.now) × (o < 4096) × (c ≤ 4) }
+    ensures { Ended k c s.now.text.now at p out.old o out.new result }
 {
-    let b = methods(text, at, low, high, count, out, p, 0);
-    match b {
-        Listed::Items(j, q, d) => close(text, j, out, o, literal_head(k, c, d), q),
-        Listed::NoItems => Step::Bad,
-    }
+    let m = methods(s, at, out, p, 0)?;
+    close(s, m.at, out, o, literal_head(k, c, m.count), m.out)
 }
 
 // Fields, with `b` before them and at most four in all.
 #[cycle(expressions)]
-fn fields(
-    text: &[u8],
-    at: usize,
-    low: &[u64],
-    high: &[u32],
-    count: usize,
-    out: &mut [u64],
-    o: usize,
-    b: usize,
-) -> Listed
-    requires { Ready text.now low.now high.now count × Place text.now at o × (length out.old ≡ 4096) × (b ≤ 4) }
-    ensures { Lists wide_fields count_fields 4 b (fields_from b text.now) text.now at o out.old out.new result }
+#[tactic(auto, using(crate::specs::Cycle::fields_laws))]
+fn fields(s: &Source, at: usize, out: &mut [u64; 4096], o: usize, b: usize) -> Option<Listed>
+    requires { (o ≤ at) × (at ≤ length s.now.text.now) × (b ≤ 4) }
+    ensures { Lists wide_fields count_fields 4 b (fields_from b s.now.text.now) s.now.text.now at o out.old out.new result }
 {
+    let end = Some(Listed {
+        at,
+        out: o,
+        count: b,
+    });
     if b == 4 {
-        return Listed::Items(at, o, b);
+        return end;
     }
-    if scan::starts(text, at, b" (field ") {
-        return field(text, at + 8, low, high, count, out, o, b);
+    if scan::starts(s.text, at, b" (field ") {
+        return field(s, at + 8, out, o, b);
     }
-    Listed::Items(at, o, b)
+    end
 }
 
 // A field behind its opening, and those after it.
 #[cycle(expressions)]
-fn field(
-    text: &[u8],
-    at: usize,
-    low: &[u64],
-    high: &[u32],
-    count: usize,
-    out: &mut [u64],
-    o: usize,
-    b: usize,
-) -> Listed
-    requires { Ready text.now low.now high.now count × Place text.now at (o + 1) × (length out.old ≡ 4096) × (b < 4) }
-    ensures { Lists wide_fields count_fields 4 b (field_at b text.now) text.now at o out.old out.new result }
+#[tactic(auto, using(crate::specs::Cycle::field_laws))]
+fn field(s: &Source, at: usize, out: &mut [u64; 4096], o: usize, b: usize) -> Option<Listed>
+    requires { (o < at) × (at ≤ length s.now.text.now) × (b < 4) }
+    ensures { Lists wide_fields count_fields 4 b (field_at b s.now.text.now) s.now.text.now at o out.old out.new result }
 {
-    let x = word_at(text, at, low, high, count);
-    match x {
-        Name::Word(f, i) => {
-            let a = one(text, i, low, high, count, out, o, head(128, f));
-            match a {
-                Step::Done(j, p) => fields(text, j, low, high, count, out, p, b + 1),
-                Step::Bad => Listed::NoItems,
-            }
-        }
-        Name::NoWord => Listed::NoItems,
-    }
+    let f = s.word_at(at)?;
+    let e = one(s, f.end, out, o, head(kind::FIELD, f.number))?;
+    fields(s, e.at, out, e.out, b + 1)
 }
 
 // Methods, in the same way.
 #[cycle(expressions)]
-fn methods(
-    text: &[u8],
-    at: usize,
-    low: &[u64],
-    high: &[u32],
-    count: usize,
-    out: &mut [u64],
-    o: usize,
-    b: usize,
-) -> Listed
-    requires { Ready text.now low.now high.now count × Place text.now at o × (length out.old ≡ 4096) × (b ≤ 4) }
-    ensures { Lists wide_methods count_methods 4 b (methods_from b text.now) text.now at o out.old out.new result }
+#[tactic(auto, using(crate::specs::Cycle::methods_laws))]
+fn methods(s: &Source, at: usize, out: &mut [u64; 4096], o: usize, b: usize) -> Option<Listed>
+    requires { (o ≤ at) × (at ≤ length s.now.text.now) × (b ≤ 4) }
+    ensures { Lists wide_methods count_methods 4 b (methods_from b s.now.text.now) s.now.text.now at o out.old out.new result }
 {
+    let end = Some(Listed {
+        at,
+        out: o,
+        count: b,
+    });
     if b == 4 {
-        return Listed::Items(at, o, b);
+        return end;
     }
-    if scan::starts(text, at, b" (method ") {
-        return method(text, at + 9, low, high, count, out, o, b);
+    if scan::starts(s.text, at, b" (method ") {
+        return method(s, at + 9, out, o, b);
     }
-    Listed::Items(at, o, b)
+    end
 }
 
 #[cycle(expressions)]
-fn method(
-    text: &[u8],
-    at: usize,
-    low: &[u64],
-    high: &[u32],
-    count: usize,
-    out: &mut [u64],
-    o: usize,
-    b: usize,
-) -> Listed
-    requires { Ready text.now low.now high.now count × Place text.now at (o + 1) × (length out.old ≡ 4096) × (b < 4) }
-    ensures { Lists wide_methods count_methods 4 b (method_at b text.now) text.now at o out.old out.new result }
+#[tactic(auto, using(crate::specs::Cycle::method_laws))]
+fn method(s: &Source, at: usize, out: &mut [u64; 4096], o: usize, b: usize) -> Option<Listed>
+    requires { (o < at) × (at ≤ length s.now.text.now) × (b < 4) }
+    ensures { Lists wide_methods count_methods 4 b (method_at b s.now.text.now) s.now.text.now at o out.old out.new result }
 {
-    let h = method_head(text, at, low, high, count);
-    match h {
-        Header::Head(i, w) => {
-            let a = one(text, i, low, high, count, out, o, w);
-            match a {
-                Step::Done(j, p) => methods(text, j, low, high, count, out, p, b + 1),
-                Step::Bad => Listed::NoItems,
-            }
-        }
-        Header::NoHead => Listed::NoItems,
-    }
+    let m = s.method_head(at)?;
+    let e = one(s, m.end, out, o, m.word)?;
+    methods(s, e.at, out, e.out, b + 1)
 }

@@ -1,0 +1,32 @@
+-- Where a comparison holds the run is that reserved word; where all fail it is none. Assumes nothing.
+use Rattle.std.proofs.Common.{eqb}
+use Rattle.scan.specs.Keywords.{laws, keyword-not, Compared}
+use Rattle.scan.proofs.keywords.three.Goals as goal
+
+pub returns-then-named : goal.returns-then-named
+unfolding Compared
+returns-then-named c = search laws
+
+pub returns-then-named-2 : goal.returns-then-named-2
+unfolding Compared
+returns-then-named-2 c = search laws
+
+pub returns-then-named-3 : goal.returns-then-named-3
+unfolding Compared
+returns-then-named-3 c = search laws
+
+pub returns-then-named-4 : goal.returns-then-named-4
+unfolding Compared
+returns-then-named-4 c = search laws
+
+pub returns-then-named-5 : goal.returns-then-named-5
+unfolding Compared
+returns-then-named-5 c = search laws
+
+pub returns-then-named-6 : goal.returns-then-named-6
+unfolding Compared
+returns-then-named-6 c = search laws
+
+pub returns : goal.returns
+unfolding Compared
+returns c = keyword-not _ (eqb 3) (search laws) (search laws, (search laws, (search laws, (search laws, (search laws, (search laws, tt))))))
