@@ -1,5 +1,5 @@
 -- Entries one after another: why the loops over them answer so, and the words that they were read from. Assumes nothing.
-use Rattle.std.specs.Prelude.{◌≡◌, refl, Bool, true, false, ◌&&◌, length, get_or, take, drop}
+use Rattle.std.specs.Prelude.{◌≡◌, refl, Bool, true, false, ◌&&◌, eqb, length, get_or, take, drop}
 use Rattle.std.proofs.Math.Path.{sym}
 use Rattle.std.proofs.Common.{ap, ap₂, ◌∙◌, rules, Fits, take-append-drop, drop-cons, drop-drop}
 use mathlib.Core.List.{List, [], ◌∷◌, ◌++◌, append_assoc}
@@ -13,8 +13,8 @@ use Rattle.layout.specs.Pack.{flat}
 use Rattle.layout.specs.Layout.{encode_word}
 use Rattle.decoding.specs.Reading.{cut}
 use Rattle.decoding.specs.Decode.{decode_word}
-use Rattle.dictionary.specs.Entries.{zero_from, own_word, entry, entry_at, entries_at, among_at, entry_holds, entries_hold}
-use Rattle.dictionary.specs.WordLaws.{spell-all, zero_more, zero-stop, zero-end, entry-bytes, entry-own, low-differs, middle-differs, high-decides, own-not, own-apply, own-word, entry-encoded}
+use Rattle.dictionary.specs.Entries.{own_word, entry, entry_at, entries_at, among_at, entry_holds, entries_hold}
+use Rattle.dictionary.specs.WordLaws.{spell-all, entry-bytes, entry-own, low-differs, middle-differs, high-decides, own-not, own-apply, own-word, entry-encoded}
 
 -- ---- entries, one after another
 module _ (w : List ℕ) where
@@ -95,54 +95,67 @@ module _ (w : List ℕ) (at n : ℕ) where
     pub hold-more : (r : Bool) → r ≡ entry_holds w at (n - 1) → r ≡ true → entries_hold w at n ≡ entries_hold w (at + 3) (n - 1)
     hold-more r s e = split ∙ rw (sym s ∙ e)
 
--- ---- the loops: what is asked of the whole is what is asked of the rest
-unfoldable pub Still : Bool → Bool → Type 0
-Still asked left = asked ≡ left
+-- ---- two entries, and the loops
+module _ (w : List ℕ) (i j : ℕ) (f : (k : ℕ) → Fits w32 (get_or w k 0)) where
+  pub entries-low : (get_or w i 0 ≡ get_or w j 0 → ⊥) → false ≡ same_bytes (entry_at w i) (entry_at w j)
+  unfolding entry_at
+  entries-low n = low-differs _ _ _ _ _ _ (f i) (f (i + 1)) (f (i + 2)) (f j) (f (j + 1)) (f (j + 2)) n
 
-pub still-start : (x : Bool) → Still x x
-unfolding Still
-still-start x = refl
+  pub entries-middle : get_or w i 0 ≡ get_or w j 0 → (get_or w (i + 1) 0 ≡ get_or w (j + 1) 0 → ⊥) → false ≡ same_bytes (entry_at w i) (entry_at w j)
+  unfolding entry_at
+  entries-middle p n = middle-differs _ _ _ _ _ _ (f i) (f (i + 1)) (f (i + 2)) (f j) (f (j + 1)) (f (j + 2)) p n
 
-module _ (t : Bytes) (at i : ℕ) (h : Still (zero_from t at) (zero_from t i)) where
-  pub ends_more : i < length t → get_or t i 0 ≡ 0 → Still (zero_from t at) (zero_from t (i + 1))
-  unfolding Still
-  ends_more l e = h ∙ zero_more t i l e
+  pub entries-high : get_or w i 0 ≡ get_or w j 0 → get_or w (i + 1) 0 ≡ get_or w (j + 1) 0 → eqb (get_or w (i + 2) 0) (get_or w (j + 2) 0) ≡ same_bytes (entry_at w i) (entry_at w j)
+  unfolding entry_at
+  entries-high p q = high-decides _ _ _ _ _ _ (f i) (f (i + 1)) (f (i + 2)) (f j) (f (j + 1)) (f (j + 2)) p q
 
-  pub ends-stop : i < length t → (get_or t i 0 ≡ 0 → ⊥) → false ≡ zero_from t at
-  unfolding Still
-  ends-stop l e = sym (h ∙ zero-stop t i l e)
+-- the entries from the k-th on decide of all
+unfoldable pub Seeking : List ℕ → ℕ → ℕ → ℕ → ℕ → Type 0
+Seeking w at n it k = among_at w at n (entry_at w it) ≡ among_at w (at + 3 * k) (n - k) (entry_at w it)
 
-  pub ends-end : length t ≤ i → true ≡ zero_from t at
-  unfolding Still
-  ends-end l = sym (h ∙ zero-end t i l)
+pub seek-start : (w : List ℕ) (at n it : ℕ) → Seeking w at n it 0
+unfolding Seeking
+seek-start w at n it = let e : n - 0 ≡ n = omega arith in let d : at + 3 * 0 ≡ at = omega arith in rw (e, d) refl
 
-module _ (w : List ℕ) (at n i m it : ℕ) (h : Still (among_at w at n (entry_at w it)) (among_at w i m (entry_at w it))) where
-  pub again-none : m ≤ 0 → false ≡ among_at w at n (entry_at w it)
-  unfolding Still
-  again-none z = sym (h ∙ among_none w i m (entry_at w it) (omega arith))
+module _ (w : List ℕ) (at n it k : ℕ) (h : Seeking w at n it k) where
+  pub seek-none : n ≤ k → false ≡ among_at w at n (entry_at w it)
+  unfolding Seeking
+  seek-none z = sym (h ∙ among_none w (at + 3 * k) (n - k) (entry_at w it) (omega arith))
 
-  module _ (p : 0 < m) (l : i + 3 * m ≤ length w) (r : Bool)
-      (s : r ≡ same_bytes (entry (get_or w i 0) (get_or w (i + 1) 0) (get_or w (i + 2) 0)) (entry (get_or w it 0) (get_or w (it + 1) 0) (get_or w (it + 2) 0))) where
-    pub again-here : r ≡ true → true ≡ among_at w at n (entry_at w it)
-    unfolding Still entry_at
-    again-here e = sym (h ∙ among-here w i m (entry_at w it) p l r s e)
+  module _ (p : k < n) (l : at + 3 * n ≤ length w) (r : Bool) (s : r ≡ same_bytes (entry_at w (at + 3 * k)) (entry_at w it)) where
+    pub seek-here : r ≡ true → true ≡ among_at w at n (entry_at w it)
+    unfolding Seeking
+    seek-here e = sym (h ∙ among-here w (at + 3 * k) (n - k) (entry_at w it) (omega arith) (omega arith) r s e)
 
-    pub again-later : r ≡ false → Still (among_at w at n (entry_at w it)) (among_at w (i + 3) (m - 1) (entry_at w it))
-    unfolding Still entry_at
-    again-later e = h ∙ among_later w i m (entry_at w it) p l r s e
+    pub seek-on : r ≡ false → Seeking w at n it (k + 1)
+    unfolding Seeking
+    seek-on e =
+        let i : at + 3 * (k + 1) ≡ at + 3 * k + 3 = omega arith in
+        let m : n - (k + 1) ≡ n - k - 1 = omega arith in
+        rw (i, m) (h ∙ among_later w (at + 3 * k) (n - k) (entry_at w it) (omega arith) (omega arith) r s e)
 
-module _ (w : List ℕ) (at n i m : ℕ) (h : Still (entries_hold w at n) (entries_hold w i m)) where
-  pub all_hold : m ≤ 0 → true ≡ entries_hold w at n
-  unfolding Still
-  all_hold z = sym (h ∙ hold-none w i m (omega arith))
+unfoldable pub Holding : List ℕ → ℕ → ℕ → ℕ → Type 0
+Holding w at n k = entries_hold w at n ≡ entries_hold w (at + 3 * k) (n - k)
 
-  module _ (p : 0 < m) (l : i + 3 * m ≤ length w) (r : Bool) (s : r ≡ entry_holds w i (m - 1)) where
+pub hold-start : (w : List ℕ) (at n : ℕ) → Holding w at n 0
+unfolding Holding
+hold-start w at n = let e : n - 0 ≡ n = omega arith in let d : at + 3 * 0 ≡ at = omega arith in rw (e, d) refl
+
+module _ (w : List ℕ) (at n k : ℕ) (h : Holding w at n k) where
+  pub all_hold : n ≤ k → true ≡ entries_hold w at n
+  unfolding Holding
+  all_hold z = sym (h ∙ hold-none w (at + 3 * k) (n - k) (omega arith))
+
+  module _ (p : k < n) (l : at + 3 * n ≤ length w) (r : Bool) (s : r ≡ entry_holds w (at + 3 * k) (n - k - 1)) where
     pub one-not : r ≡ false → false ≡ entries_hold w at n
-    unfolding Still
-    one-not e = sym (h ∙ hold-not w i m p l r s e)
+    unfolding Holding
+    one-not e = sym (h ∙ hold-not w (at + 3 * k) (n - k) (omega arith) (omega arith) r s e)
 
-    pub one_more : r ≡ true → Still (entries_hold w at n) (entries_hold w (i + 3) (m - 1))
-    unfolding Still
-    one_more e = h ∙ hold-more w i m p l r s e
+    pub one_more : r ≡ true → Holding w at n (k + 1)
+    unfolding Holding
+    one_more e =
+        let i : at + 3 * (k + 1) ≡ at + 3 * k + 3 = omega arith in
+        let m : n - (k + 1) ≡ n - k - 1 = omega arith in
+        rw (i, m) (h ∙ hold-more w (at + 3 * k) (n - k) (omega arith) (omega arith) r s e)
 
-pub ruleset laws = (rules, spell-all, entry-bytes, entry-own, still-start, ends_more, ends-stop, ends-end, low-differs, middle-differs, high-decides, own-not, own-apply, own-word, again-none, again-here, again-later, entry-not, entry-again, entry_first, all_hold, one-not, one_more)
+pub ruleset laws = (rules, spell-all, entry-bytes, entry-own, entries-low, entries-middle, entries-high, own-not, own-apply, own-word, seek-start, seek-none, seek-here, seek-on, entry-not, entry-again, entry_first, hold-start, all_hold, one-not, one_more)

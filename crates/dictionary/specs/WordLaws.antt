@@ -1,12 +1,12 @@
 -- One entry: its twelve bytes, their number, and why the test of an entry answers so. Assumes nothing.
-use Rattle.std.specs.Prelude.{◌≡◌, Bool, ◌&&◌, [], ◌∷◌, ◌++◌, eqb, get_or, set, replicate, if◌then◌else◌}
+use Rattle.std.specs.Prelude.{◌≡◌, Bool, ◌&&◌, [], ◌∷◌, ◌++◌, nat_eq, eqb, take, set, replicate, if◌then◌else◌}
+use Rattle.std.specs.List.{list_all}
 use Rattle.std.proofs.Math.Path.{refl, sym, ap}
-use Rattle.std.proofs.Common.{ap₂, ◌∙◌, eq-eqb, ne_eqb, eqb-true, Fits, drop_of_length-le, drop-cons}
+use Rattle.std.proofs.Common.{ap₂, ◌∙◌, eqb-true, Fits, take_all}
 use Rattle.std.proofs.Math.Bool.{true, false}
 use Rattle.std.proofs.lemmas.Bool.{false≢true, eqb-false}
-use Prim.Native.Nat.{ℕ, zero, suc, ◌+◌, ◌-◌, ◌*◌, ◌/◌, ◌%◌, ◌^◌, ◌≤◌, ◌<◌}
+use Prim.Native.Nat.{ℕ, zero, suc, ◌+◌, ◌-◌, ◌*◌, ◌/◌, ◌%◌, ◌^◌, ◌<◌}
 use Rattle.std.proofs.Math.Nat.{pow-succ', pow-zero}
-use Rattle.std.proofs.Math.Numerals.{add-one}
 use native.Mathlib.Omega.{arith}
 use Rattle.std.specs.Int.{w32}
 use Rattle.std.proofs.Math.ListN.{length, drop, take-append-drop, length-drop}
@@ -46,26 +46,21 @@ unfolding AreBytes four_bytes
 four_bytes_lem w h = let l = h.fits in (omega arith, (omega arith, (omega arith, (omega arith, tt))))
 
 -- ---- zeros
-module _ (t : Bytes) (i : ℕ) where
-  first-zero : i < length t → zero_from t i ≡ (eqb (get_or t i 0) 0 && zero_from t (i + 1))
-  unfolding zero_from zeros same_bytes
-  first-zero h =
-      let n : length t - i ≡ suc (length t - (i + 1)) = omega arith in
-      rw (drop-cons t i 0 h, n, add-one i)
+zeros-all : (t : Bytes) → list_all (λ b. nat_eq b 0) t ≡ same_bytes t (zeros (length t))
+unfolding zeros same_bytes
+zeros-all [] = refl
+zeros-all (b ∷ t) = ap (λ r. nat_eq b 0 && r) (zeros-all t)
 
-  pub zero_more : i < length t → get_or t i 0 ≡ 0 → zero_from t i ≡ zero_from t (i + 1)
-  zero_more h e = first-zero h ∙ rw (eq-eqb (get_or t i 0) 0 e)
+zero_rest : (t : Bytes) (i : ℕ) → zero_from t i ≡ true → drop i t ≡ zeros (length t - i)
+unfolding zero_from
+zero_rest t i h = same_true (drop i t) (zeros (length t - i)) h
 
-  pub zero-stop : i < length t → (get_or t i 0 ≡ 0 → ⊥) → zero_from t i ≡ false
-  zero-stop h e = first-zero h ∙ rw (ne_eqb (get_or t i 0) 0 e)
-
-  pub zero-end : length t ≤ i → zero_from t i ≡ true
-  unfolding zero_from zeros same_bytes
-  zero-end h = let n : length t - i ≡ 0 = omega arith in rw (drop_of_length-le t {i = i} h, n)
-
-  zero_rest : zero_from t i ≡ true → drop i t ≡ zeros (length t - i)
-  unfolding zero_from
-  zero_rest h = same_true (drop i t) (zeros (length t - i)) h
+-- all bytes behind a place, as they are lent
+zero-all : (t : Bytes) (i k : ℕ) (y : Bool) → k ≡ length t - i → y ≡ list_all (λ b. nat_eq b 0) (take k (drop i t)) → y ≡ zero_from t i
+unfolding zero_from
+zero-all t i k y e h =
+    let w : take k (drop i t) ≡ drop i t = take_all k (drop i t) (omega (arith, length-drop i t)) in
+    h ∙ zeros-all (take k (drop i t)) ∙ rw (w, length-drop i t) refl
 
 -- ---- bytes and their number
 number-zeros : (w : Bytes) (k : ℕ) → bytes_number (w ++ zeros k) ≡ bytes_number w
@@ -205,17 +200,17 @@ module _ (t : Bytes) (e : ℕ) (h : AreBytes t) (r : Run t 0 e) where
       let n : bytes_number t ≡ bytes_number w = ap bytes_number (sym s) ∙ number-zeros w (length t - e) in
       sym (ap (bytes_in (length t)) n ∙ bytes_back (length t) w (omega (arith, length-slice 0 e t r.within, r.within)) (each_all ByteFits in_word byte_fits w (run-all t 0 e r)))
 
-  pub own-not : (y : Bool) → y ≡ zero_from t e → y ≡ false → false ≡ own_word (spelled t)
+  unended : (y : Bool) → y ≡ zero_from t e → y ≡ false → false ≡ own_word (spelled t)
   unfolding own_word
-  own-not y i j = sym (not-both (is_word (spelled t)) _ (go (is_word (spelled t)) refl))
+  unended y i j = sym (not-both (is_word (spelled t)) _ (go (is_word (spelled t)) refl))
     where
       go : (b : Bool) → is_word (spelled t) ≡ b → b ≡ false
       go false q = refl
       go true q = absurd (false≢true (sym (sym i ∙ j) ∙ (run-spelled (word-parts (spelled t) q).1).1))
 
-  pub own-apply : (z q : Bool) → z ≡ zero_from t e → z ≡ true → q ≡ same_bytes (97 ∷ 112 ∷ 112 ∷ 108 ∷ 121 ∷ []) (slice 0 e t) → q ≡ true → false ≡ own_word (spelled t)
+  applied : (z q : Bool) → z ≡ zero_from t e → z ≡ true → q ≡ same_bytes (97 ∷ 112 ∷ 112 ∷ 108 ∷ 121 ∷ []) (slice 0 e t) → q ≡ true → false ≡ own_word (spelled t)
   unfolding own_word bytes
-  own-apply z q i j k l =
+  applied z q i j k l =
       let s = zeros-spelled (sym i ∙ j) in
       let a : spelled t ≡ bytes "apply" = sym (same_true (bytes "apply") (slice 0 e t) (sym k ∙ l) ∙ s) in
       let f : same_bytes (spelled t) (bytes "apply") ≡ true = rw a (same_refl (bytes "apply")) in
@@ -225,12 +220,24 @@ module _ (t : Bytes) (e : ℕ) (h : AreBytes t) (r : Run t 0 e) where
       last true = refl
       last false = refl
 
-  pub own-word : (z q u : Bool) → z ≡ zero_from t e → z ≡ true → q ≡ same_bytes (97 ∷ 112 ∷ 112 ∷ 108 ∷ 121 ∷ []) (slice 0 e t) → q ≡ false → u ≡ is_word (slice 0 e t) → u ≡ own_word (spelled t)
+  owned : (z q u : Bool) → z ≡ zero_from t e → z ≡ true → q ≡ same_bytes (97 ∷ 112 ∷ 112 ∷ 108 ∷ 121 ∷ []) (slice 0 e t) → q ≡ false → u ≡ is_word (slice 0 e t) → u ≡ own_word (spelled t)
   unfolding own_word bytes
-  own-word z q u i j k l m =
+  owned z q u i j k l m =
       let s = zeros-spelled (sym i ∙ j) in
       rw (← s, same-false-sym (bytes "apply") (slice 0 e t) (sym k ∙ l)) (m ∙ last (is_word (slice 0 e t)))
     where
       last : (b : Bool) → b ≡ (b && true)
       last true = refl
       last false = refl
+
+  -- by the bytes that are lent
+  module _ (n : ℕ) (z : Bool) (c : n ≡ length t - e) (i : z ≡ list_all (λ b. nat_eq b 0) (take n (drop e t))) where
+    pub own-not : z ≡ false → false ≡ own_word (spelled t)
+    own-not j = unended z (zero-all t e n z c i) j
+
+    module _ (j : z ≡ true) (q : Bool) (k : q ≡ same_bytes (97 ∷ 112 ∷ 112 ∷ 108 ∷ 121 ∷ []) (slice 0 e t)) where
+      pub own-apply : q ≡ true → false ≡ own_word (spelled t)
+      own-apply l = applied z q (zero-all t e n z c i) j k l
+
+      pub own-word : q ≡ false → (u : Bool) → u ≡ is_word (slice 0 e t) → u ≡ own_word (spelled t)
+      own-word l u m = owned z q u (zero-all t e n z c i) j k l m

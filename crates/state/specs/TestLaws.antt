@@ -1,6 +1,6 @@
 -- Why the test for a state answers so: one law for each way to return. Assumes nothing.
 use Prim.Native.Nat.{ℕ, suc, ◌+◌, ◌-◌, ◌*◌, ◌≤◌, ◌<◌}
-use Rattle.std.specs.Prelude.{◌≡◌, Bool, List, length, take, drop, get_or}
+use Rattle.std.specs.Prelude.{◌≡◌, Bool, Some, None, List, length, take, drop, get_or}
 use Rattle.std.proofs.Math.Path.{refl, subst as transp}
 use Rattle.std.proofs.Common.{sym, ap, ◌∙◌, rules, Fits, length-take, length-drop, take_all, length-take-le}
 use Rattle.std.proofs.Math.Bool.{true, false, false≢true}
@@ -131,17 +131,17 @@ pub head-holds : (w : List ℕ) (r : Bool) → Decides (HeadHolds w) r → r ≡
 unfolding Decides
 head-holds w r d e = d.0 e
 
-module _ (w : List ℕ) (l : length w ≡ state_words) (h : HeadHolds w) (n : ℕ) (p : n ≡ get_or w 0 0) (K : List ℕ) (r : Bool) (t : Tabled w n K r) where
-  pub table-not : r ≡ false → Decides (AreState w) false
-  table-not e = denied (λ a. false≢true (sym e ∙ t.complete (rw p (state-holds w a).few)))
+module _ (w : List ℕ) (l : length w ≡ state_words) (h : HeadHolds w) (n : ℕ) (p : n ≡ get_or w 0 0) where
+  pub table-not : Tabled w n None → Decides (AreState w) false
+  table-not t = denied (λ a. t.complete (rw p (state-holds w a).few) refl)
 
-  pub parts-told : r ≡ true → ((i : ℕ) → Fits w32 (get_or w i 0)) → (b : Bool) → Decides (PartsHold K (get_or w 1 0) 0 n (drop head_size w)) b → Decides (AreState w) b
+  pub parts-told : (K : List ℕ) → Tabled w n (Some K) → ((i : ℕ) → Fits w32 (get_or w i 0)) → (b : Bool) → Decides (PartsHold K (get_or w 1 0) 0 n (drop head_size w)) b → Decides (AreState w) b
   unfolding Decides kinds_for
-  parts-told e f b d =
-      let k : K ≡ kinds_for (get_or w 0 0) (drop head_size w) = t.is e ∙ rw p in (
+  parts-told K t f b d =
+      let k : K ≡ kinds_for (get_or w 0 0) (drop head_size w) = t.is K refl ∙ rw p in (
         (λ z. holds-state w (record { count = l; small = f }) (record {
           head = h;
-          few = rw (← p) (t.sound e);
+          few = rw (← p) (t.sound K refl);
           parts = rw (← k, ← p) (d.0 z);
         })),
         (λ a. d.1 (rw (k, p) (state-holds w a).parts)),

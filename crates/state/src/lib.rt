@@ -67,8 +67,10 @@ fn are_actors(w: &[u32]) -> bool
     requires { (length w.now ≡ state_words) × HeadHolds w.now }
     ensures { Decides (AreState w.now) result }
 {
-    let mut kinds = [0u8; STATE_SLOTS];
-    entity_kinds::fill_kinds(w, w[0] as usize, &mut kinds) && are_parts(w, w[0], w[1], &kinds)
+    let Some(kinds) = entity_kinds::table(w, w[0] as usize) else {
+        return false;
+    };
+    are_parts(w, w[0], w[1], &kinds)
 }
 
 // Whether 16,384 words are a state.
