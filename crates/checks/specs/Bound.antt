@@ -4,12 +4,12 @@
 use Prim.Native.Nat.{ℕ, ◌+◌, ◌-◌, ◌/◌, ◌%◌, ◌≤◌, ◌<◌}
 use Rattle.std.specs.Prelude.{◌≡◌, refl, cond, ◌&&◌, Option, Some, None, List, eqb, ltb, get_or, set}
 use Rattle.std.proofs.Math.Path.{sym, ap, ap₂}
-use Rattle.std.proofs.Common.{◌∙◌, arith, rules, set-set}
+use Rattle.std.proofs.Common.{◌∙◌, arith, rules}
 use Rattle.std.proofs.Math.Bool.{Bool, true, false}
 use borrow.Author.Tests.{ne_eqb, lt-ltb, le-ltb}
 use Rattle.std.proofs.Math.ListN.{length}
-use Rattle.std.proofs.lemmas.List.{set-get_or}
 use Rattle.words.specs.Wide.{wide_kinds, wide_limit, wide_params_at, wide_third}
+use Rattle.checks.specs.Scope.{Bound, Kept, kept, inside-kept}
 use Rattle.checks.specs.Trees.{Forest, empty, tree, words, count, outer, inner, Fits}
 use Rattle.checks.specs.TreeContract.{Here, length-tree, here-word, here-outer, here-inner, here-next, answer, stopped, went, no-tree}
 
@@ -42,14 +42,6 @@ ok (tree h a c r) L b l = sees h b L && (ok a L (base_of h b l) l && (ok c (bind
 -- the answer for n trees at `at`
 unfoldable pub Scanned : List ℕ → ℕ → ℕ → ℕ → ℕ → ℕ → List ℕ → Option ℕ → Type 0
 Scanned s end at n b l L r = (f : Forest) → Fits f → count f ≡ n → Here s end at (words f) → r ≡ answer (ok f L b l) (at + length (words f))
-
--- what was changed on the way is put back
-unfoldable pub Kept : List ℕ → List ℕ → Type 0
-Kept L M = M ≡ L
-
-pub kept : (L : List ℕ) → Kept L L
-unfolding Kept
-kept L = refl
 
 -- ---- one word
 module _ (h b : ℕ) (L : List ℕ) where
@@ -87,53 +79,6 @@ binds-is h k r e i = i ∙ ap (λ j. binds_by j (h / wide_kinds)) (sym e)
 pub binds-none : (h : ℕ) → (h % wide_kinds ≡ 11 → ⊥) → (h % wide_kinds ≡ 12 → ⊥) → (h % wide_kinds ≡ 65 → ⊥) → (h % wide_kinds ≡ 67 → ⊥) → (h % wide_kinds ≡ 192 → ⊥) → 0 ≡ binds h
 unfolding binds
 binds-none h a b c d e = rw (ne_eqb (h % wide_kinds) 11 a, ne_eqb (h % wide_kinds) 12 b, ne_eqb (h % wide_kinds) 65 c, ne_eqb (h % wide_kinds) 67 d, ne_eqb (h % wide_kinds) 192 e)
-
--- ---- binding, and back
-pub record Swapped (L : List ℕ) (i v : ℕ) (M : List ℕ) (r : ℕ) : Type 0 where
-  pub new : M ≡ set L i v
-  pub old : r ≡ get_or L i 0
-
-pub record Bound (L : List ℕ) (n v : ℕ) (M : List ℕ) (x y z : ℕ) : Type 0 where
-  pub new : M ≡ bind_all L n v
-  pub third : z ≡ get_or L (n / wide_third % wide_limit) 0
-  pub second : y ≡ get_or (set L (n / wide_third % wide_limit) v) (n / wide_limit % wide_limit) 0
-  pub first : x ≡ get_or (set (set L (n / wide_third % wide_limit) v) (n / wide_limit % wide_limit) v) (n % wide_limit) 0
-
-pub record Unbound (L : List ℕ) (n : ℕ) (M : List ℕ) (x y z : ℕ) : Type 0 where
-  pub new : M ≡ set (set (set L (n % wide_limit) x) (n / wide_limit % wide_limit) y) (n / wide_third % wide_limit) z
-
-pub swapped : (L : List ℕ) (i v : ℕ) → Swapped L i v (set L i v) (get_or L i 0)
-swapped L i v = record { new = refl; old = refl }
-
-pub all-bound : (L : List ℕ) (n v : ℕ) (M N O : List ℕ) (x y z : ℕ) → Swapped L (n / wide_third % wide_limit) v M z → Swapped M (n / wide_limit % wide_limit) v N y → Swapped N (n % wide_limit) v O x → Bound L n v O x y z
-unfolding bind_all
-all-bound L n v M N O x y z p q r =
-    let e : N ≡ set (set L (n / wide_third % wide_limit) v) (n / wide_limit % wide_limit) v = q.new ∙ rw p.new in
-    record {
-      new = r.new ∙ rw e;
-      third = p.old;
-      second = q.old ∙ rw p.new;
-      first = r.old ∙ rw e;
-    }
-
-pub all-unbound : (L : List ℕ) (n : ℕ) (M N O : List ℕ) (x y z a b c : ℕ) → Swapped L (n % wide_limit) x M a → Swapped M (n / wide_limit % wide_limit) y N b → Swapped N (n / wide_third % wide_limit) z O c → Unbound L n O x y z
-all-unbound L n M N O x y z a b c p q r = record { new = r.new ∙ rw (q.new, p.new) }
-
-pub put_back : (L : List ℕ) (i v : ℕ) → set (set L i v) i (get_or L i 0) ≡ L
-put_back L i v = set-set L i v (get_or L i 0) ∙ set-get_or L i 0
-
-back : (L : List ℕ) (n v : ℕ) (M N : List ℕ) (x y z : ℕ) → Bound L n v M x y z → Unbound M n N x y z → N ≡ L
-unfolding bind_all
-back L n v M N x y z p q =
-    let i : ℕ = n % wide_limit in
-    let j : ℕ = n / wide_limit % wide_limit in
-    let k : ℕ = n / wide_third % wide_limit in
-    q.new
-    ∙ ap (λ K. set (set (set K (n % wide_limit) x) (n / wide_limit % wide_limit) y) (n / wide_third % wide_limit) z) p.new
-    ∙ rw (p.first, p.second, p.third)
-    (ap (λ K. set (set K j (get_or (set L k v) j 0)) k (get_or L k 0)) (put_back (set (set L k v) j v) i v)
-    ∙ ap (λ K. set K k (get_or L k 0)) (put_back (set L k v) j v)
-    ∙ put_back L k v)
 
 -- ---- the ways to return
 module _ (s : List ℕ) (end at n b l : ℕ) (L : List ℕ) where
@@ -210,16 +155,13 @@ module _ (s : List ℕ) (end at n b l : ℕ) (L : List ℕ) where
           rw (seen h a d f here, x.0, y.0)
           (wr f ft.4 (omega arith) (here-next s end at h a d f here e k) ∙ ap₂ answer (ap (λ M. ok f M b l) (e₂ ∙ e₁)) j)
 
-module _ (h g v : ℕ) (L L₁ L₂ L₃ : List ℕ) (x y z : ℕ) where
-  pub inside-kept : Bound L g v L₁ x y z → Kept L₁ L₂ → Unbound L₂ g L₃ x y z → Kept L L₃
-  unfolding Kept
-  inside-kept p e q = back L g v L₁ L₃ x y z p (rw e at q)
+pub inside : (h g : ℕ) (L L₁ : List ℕ) (x y z : ℕ) (s : List ℕ) (end at j b l : ℕ) (r : Option ℕ) → g ≡ binds h → Bound wide_limit L g (l + 1) L₁ x y z → j ≡ inner h → Scanned s end at j b (l + 1) L₁ r → Scanned s end at (inner h) b (l + 1) (bind_all L (binds h) (l + 1)) r
+unfolding bind_all
+inside h g L L₁ x y z s end at j b l r eg p ej k =
+    let t : binds h / wide_limit / wide_limit ≡ binds h / wide_third = omega arith in
+    let e : L₁ ≡ set (set (set L (binds h / wide_third % wide_limit) (l + 1)) (binds h / wide_limit % wide_limit) (l + 1)) (binds h % wide_limit) (l + 1) = rw (← t, ← eg) p.new in
+    rw (ej, e) at k
 
-  pub inside : (s : List ℕ) (end at j b l : ℕ) (r : Option ℕ) → g ≡ binds h → Bound L g (l + 1) L₁ x y z → j ≡ inner h → Scanned s end at j b (l + 1) L₁ r → Scanned s end at (inner h) b (l + 1) (bind_all L (binds h) (l + 1)) r
-  inside s end at j b l r eg p ej k =
-      let e : L₁ ≡ bind_all L (binds h) (l + 1) = p.new ∙ ap (λ i. bind_all L i (l + 1)) eg in
-      rw (ej, e) at k
-
-pub ruleset laws = (rules, sees-this, sees-bound, sees-unbound, sees-other, base-level, base_same, binds-is, binds-none, swapped, all-bound, all-unbound)
+pub ruleset laws = (rules, sees-this, sees-bound, sees-unbound, sees-other, base-level, base_same, binds-is, binds-none)
 
 pub ruleset scan_laws = (rules, kept, scan-none, scan-past, scan-fault, scan-kept, scan-kept-two, scan-outer, scan-stop, scan-on, inside-kept, inside)

@@ -20,7 +20,8 @@ use Rattle.checks.specs.Trees.{empty, words, count, put, words-put, count-put}
 use Rattle.checks.specs.TreeFits.{fits-put, none}
 use Rattle.checks.specs.TreeContract.{Here, answer, stopped, went}
 use Rattle.checks.specs.Lines.{start_by, here-words, line-src, line-rest, line-start, define-word, define-src, define-rest, not-past, here-all}
-use Rattle.checks.specs.Bound.{Scanned, Swapped, Kept, kept}
+use Rattle.checks.specs.Scope.{Swapped, Kept, kept}
+use Rattle.checks.specs.Bound.{Scanned}
 use Rattle.checks.specs.BoundPut.{ok-put, ok-none}
 use Rattle.checks.specs.Levels.{Levels, at-start, bound-one}
 

@@ -20,6 +20,7 @@ pub mod SingleNames
 pub mod SinglePut
 pub mod SingleLines
 -- variables are bound
+pub mod Scope
 pub mod Bound
 pub mod Levels
 pub mod BoundPut

@@ -4,21 +4,13 @@
 // where its level is above the base. An isolate's or an actor's literal hides what is bound around it: inside, the level is the base.
 ghost use Rattle.std.specs.Prelude.{◌≡◌, ◌+◌, ◌≤◌, ◌<◌, length, replicate};
 ghost use Rattle.std.specs.Option.{IfSome};
-ghost use Rattle.words.specs.Wide.{wide_limit};
 ghost use Rattle.checks.specs.Trees.{inner};
 ghost use Rattle.checks.specs.BoundLines.{LinesBound, AllBound};
-ghost use Rattle.checks.specs.Bound.{sees as sees_in, Base, binds as binds_of, bind_all, Swapped, Bound, Unbound, Kept, Scanned};
+ghost use Rattle.checks.specs.Bound.{sees as sees_in, Base, binds as binds_of, bind_all, Scanned};
+ghost use Rattle.checks.specs.Scope.{Kept};
 
-use crate::tree;
+use crate::{scope, tree};
 use words::wide;
-
-// What three names were bound at.
-#[derive(Drop)]
-struct Levels {
-    x: u16,
-    y: u16,
-    z: u16,
-}
 
 // Whether the word `h` is no variable, or is one in scope.
 #[tactic(auto, unfolding(crate::specs::Bound::sees))]
@@ -51,35 +43,6 @@ fn binds(h: u64) -> u64
         192 => p / wide::PARAMS,
         _ => 0,
     }
-}
-
-// Puts `v` for the name `x`, and returns what stood there.
-fn swap(last: &mut [u16; 4096], x: usize, v: u16) -> u16
-    requires { x < wide_limit }
-    ensures { Swapped last.old x v last.new result }
-{
-    let old = last[x];
-    last[x] = v;
-    old
-}
-
-// Binds three names at the level `v`. The place of `this`, 0, is bound where there are fewer, which changes nothing for it.
-fn bind(last: &mut [u16; 4096], names: u64, v: u16) -> Levels
-    ensures { Bound last.old names v last.new result.x result.y result.z }
-{
-    let z = swap(last, (names / wide::THIRD % wide::LIMIT) as usize, v);
-    let y = swap(last, (names / wide::LIMIT % wide::LIMIT) as usize, v);
-    let x = swap(last, (names % wide::LIMIT) as usize, v);
-    Levels { x, y, z }
-}
-
-// Undoes that; the name that was bound last goes first.
-fn unbind(last: &mut [u16; 4096], names: u64, old: Levels)
-    ensures { Unbound last.old names last.new old.x old.y old.z }
-{
-    swap(last, (names % wide::LIMIT) as usize, old.x);
-    swap(last, (names / wide::LIMIT % wide::LIMIT) as usize, old.y);
-    swap(last, (names / wide::THIRD % wide::LIMIT) as usize, old.z);
 }
 
 // The end of the `n` trees at `at`, if every variable in them is bound.
@@ -129,9 +92,9 @@ fn scan_inside(
     ensures behind { IfSome result (λ e. (at ≤ e) × (e ≤ 4096)) }
 {
     let names = binds(h);
-    let old = bind(last, names, level + 1);
+    let old = scope::bind(last, names, level + 1);
     let e = scan(s, at, tree::inner(h), base, level + 1, last);
-    unbind(last, names, old);
+    scope::unbind(last, names, old);
     e
 }
 
@@ -158,9 +121,9 @@ fn lines_bound(s: &[u64], at: usize, left: usize, level: u16, last: &mut [u16; 4
         return false;
     };
     let x = (h / wide::KINDS % wide::LIMIT) as usize;
-    let old = swap(last, x, level + 1);
+    let old = scope::swap(last, x, level + 1);
     let r = lines_bound(s, e, left - 1, level + 1, last);
-    swap(last, x, old);
+    scope::swap(last, x, old);
     r
 }
 

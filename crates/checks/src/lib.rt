@@ -6,6 +6,7 @@
 
 pub mod bound;
 pub mod depth;
+pub mod scope;
 pub mod single;
 pub mod size;
 pub mod table;

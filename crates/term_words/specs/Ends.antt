@@ -45,15 +45,6 @@ Sees F g x r = (xs : List ℕ) → Scope F g xs → r ≡ ltb x no_name && membe
 unfoldable pub bound : List ℕ → ℕ → ℕ → List ℕ
 bound F g n = set (set (set F (n / pair_limit % name_limit) g) (n / name_limit % name_limit) g) (n % name_limit) g
 
-pub record Bound (F : List ℕ) (g n : ℕ) (G : List ℕ) (x y z : ℕ) : Type 0 where
-  pub new : G ≡ bound F g n
-  pub third : z ≡ get_or F (n / pair_limit % name_limit) 0
-  pub second : y ≡ get_or (set F (n / pair_limit % name_limit) g) (n / name_limit % name_limit) 0
-  pub first : x ≡ get_or (set (set F (n / pair_limit % name_limit) g) (n / name_limit % name_limit) g) (n % name_limit) 0
-
-pub record Unbound (F : List ℕ) (n : ℕ) (G : List ℕ) (x y z : ℕ) : Type 0 where
-  pub new : G ≡ set (set (set F (n % name_limit) x) (n / name_limit % name_limit) y) (n / pair_limit % name_limit) z
-
 -- the level in the parts of a literal with the word h, and whether they may refer
 pub record Opens (g h r : ℕ) : Type 0 where
   pub near : r ≤ g + 1

@@ -19,9 +19,9 @@ use Rattle.layout.specs.Numbers.{payload, method_unit, name_limit, no_name, tag_
 use Rattle.layout.specs.Terms.{kind_number}
 use Rattle.layout_laws.specs.Parse.{given, place_forms, places_in, params_at, named, method_at}
 use Rattle.layout_laws.specs.ParseWords.{along-get_or, Holding, under}
-use Rattle.checks.specs.Bound.{Swapped, swapped, Kept, kept, put_back}
+use Rattle.checks.specs.Scope.{Swapped, Kept, kept, put_back, inside-kept}
 use Rattle.term_words.specs.Words.{holds}
-use Rattle.term_words.specs.Ends.{Scope, Sees, bound, Bound, Unbound, Opens, Refers}
+use Rattle.term_words.specs.Ends.{Scope, Sees, bound, Opens, Refers}
 
 -- ---- nothing is bound
 zeros-low : (x : ℕ) (b : Bool) → ltb x name_limit ≡ b → ◌≡◌ {A = ℕ} (get_or (replicate name_limit 0) x 0) 0
@@ -147,33 +147,6 @@ module _ (F : List ℕ) (g : ℕ) (xs : List ℕ) (s : Scope F g xs) (h : ℕ) w
       named-bound (params_at h) (ltb-true (h % name_limit) no_name l) (rw (a, b) at (places-bound F g xs s (h / tagged_limit) (h / name_limit % tag_limit)))))
 
 -- ---- and back
-pub all-bound : (F : List ℕ) (g n : ℕ) (G H I : List ℕ) (x y z : ℕ) → Swapped F (n / pair_limit % name_limit) g G z → Swapped G (n / name_limit % name_limit) g H y → Swapped H (n % name_limit) g I x → Bound F g n I x y z
-unfolding bound
-all-bound F g n G H I x y z p q r =
-    let e : H ≡ set (set F (n / pair_limit % name_limit) g) (n / name_limit % name_limit) g = q.new ∙ rw p.new in
-    record {
-      new = r.new ∙ rw e;
-      third = p.old;
-      second = q.old ∙ rw p.new;
-      first = r.old ∙ rw e;
-    }
-
-pub all-unbound : (F : List ℕ) (n : ℕ) (G H I : List ℕ) (x y z a b c : ℕ) → Swapped F (n % name_limit) x G a → Swapped G (n / name_limit % name_limit) y H b → Swapped H (n / pair_limit % name_limit) z I c → Unbound F n I x y z
-all-unbound F n G H I x y z a b c p q r = record { new = r.new ∙ rw (q.new, p.new) }
-
-pub inside-kept : (F : List ℕ) (g n : ℕ) (G H I : List ℕ) (x y z : ℕ) → Bound F g n G x y z → Kept G H → Unbound H n I x y z → Kept F I
-unfolding bound Kept
-inside-kept F g n G H I x y z p e q =
-    let i : ℕ = n % name_limit in
-    let j : ℕ = n / name_limit % name_limit in
-    let k : ℕ = n / pair_limit % name_limit in
-    q.new
-    ∙ ap (λ K. set (set (set K (n % name_limit) x) (n / name_limit % name_limit) y) (n / pair_limit % name_limit) z) (e ∙ p.new)
-    ∙ rw (p.first, p.second, p.third)
-    (ap (λ K. set (set K j (get_or (set F k g) j 0)) k (get_or F k 0)) (put_back (set (set F k g) j g) i g)
-    ∙ ap (λ K. set K k (get_or F k 0)) (put_back (set F k g) j g)
-    ∙ put_back F k g)
-
 pub swap-kept : (F : List ℕ) (x v o u : ℕ) (G H I J : List ℕ) → Swapped F x v G o → Kept G H → Kept H I → Swapped I x o J u → Kept F J
 unfolding Kept
 swap-kept F x v o u G H I J p e f q = q.new ∙ rw (f ∙ e, p.new, p.old) (put_back F x v)
@@ -219,6 +192,6 @@ module _ (refs : Bool) (h : ℕ) where
   refers-alone k Kind.isolate i K a = refl
   refers-alone k Kind.actor i K a = refl
 
-pub ruleset laws = (rules, sees-bound, sees-unbound, sees-none, swapped, all-bound, all-unbound, opens-object, opens-alone, refers-object, refers-alone)
+pub ruleset laws = (rules, sees-bound, sees-unbound, sees-none, opens-object, opens-alone, refers-object, refers-alone)
 
 pub ruleset kept_laws = (rules, kept, kept-after, inside-kept, swap-kept, swap-back)

@@ -1,5 +1,6 @@
 -- The laws of the words of terms: one for each kind that nothing stands behind, that has operands, or that binds names. Assumes nothing.
 use Rattle.std.specs.Prelude.{ℕ, zero, suc, ◌+◌, ◌*◌, ◌/◌, ◌%◌, ◌≤◌, ◌<◌, ◌≡◌, Bool, ◌&&◌, not, Some, None, eqb}
+use Rattle.std.specs.Prelude.{set}
 use Rattle.std.specs.Bool.{then_some}
 use Rattle.std.specs.Option.{option_and_then}
 use Rattle.std.proofs.Math.Path.{refl, sym}
@@ -23,10 +24,10 @@ use Rattle.layout_laws.specs.KindRows.{by_kind as by_form}
 use Rattle.layout_laws.specs.KindLaws.{bare-row, field_row, bare-found, field_found}
 use Rattle.layout_laws.specs.Parse.{value_in, value_at, name_of, no_head, unary, binary, many, only, value_head, ask_head, ask_in, head_of, head_in, head_at, formed}
 use Rattle.layout_laws.specs.ParseLaws.{parse}
-use Rattle.checks.specs.Bound.{Swapped, Kept}
+use Rattle.checks.specs.Scope.{Swapped, Bound, Kept}
 use Rattle.term_words.specs.Words.{within, send_in, call_in}
 use Rattle.term_words.specs.WordLaws.{name-past}
-use Rattle.term_words.specs.Ends.{end_of, Scope, Sees, bound, Bound, Arguments, two, terms_end, Leaf, Closed, Unlisted, Operands, TermEnds, FormEnds, LiteralEnds}
+use Rattle.term_words.specs.Ends.{end_of, Scope, Sees, bound, Arguments, two, terms_end, Leaf, Closed, Unlisted, Operands, TermEnds, FormEnds, LiteralEnds}
 use Rattle.term_words.specs.ScopeLaws.{scope-bind, two-bound}
 use Rattle.term_words.specs.NameLaws.{variable-below}
 use Rattle.wellformed.specs.EndLaws.{ends_on, ends-pair}
@@ -288,7 +289,11 @@ module _ (c : ℕ) (p : Value → Bool) (F : List ℕ) (g : ℕ) (w : List ℕ) 
       (ends_on (λ d. future (x % name_limit) (x / name_limit) d) (well_formed c p xs) (well_formed c p (x % name_limit ∷ x / name_limit ∷ xs)) (parse w at) (λ d n g. rw u))
 
 -- ---- in a scope with three names more
-pub inside-ends : (c : ℕ) (p : Value → Bool) (F : List ℕ) (g : ℕ) (w : List ℕ) (at n : ℕ) (r : Maybe ℕ) (G : List ℕ) (x y z : ℕ) → Bound F g n G x y z → TermEnds c p G g w at r → TermEnds c p (bound F g n) g w at r
-inside-ends c p F g w at n r G x y z b j = rw b.new at j
+pub inside-ends : (c : ℕ) (p : Value → Bool) (F : List ℕ) (g : ℕ) (w : List ℕ) (at n : ℕ) (r : Maybe ℕ) (G : List ℕ) (x y z : ℕ) → Bound name_limit F n g G x y z → TermEnds c p G g w at r → TermEnds c p (bound F g n) g w at r
+unfolding bound
+inside-ends c p F g w at n r G x y z b j =
+    let t : n / name_limit / name_limit ≡ n / pair_limit = omega arith in
+    let e : G ≡ set (set (set F (n / pair_limit % name_limit) g) (n / name_limit % name_limit) g) (n % name_limit) g = rw (← t) b.new in
+    rw e at j
 
 pub ruleset binder_laws = (rules, let-not, let-place, let-none, let-well, future-not, future-well, inside-ends)

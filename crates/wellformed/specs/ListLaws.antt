@@ -19,7 +19,7 @@ use Rattle.layout_laws.specs.ParseWords.{holding, field-word}
 use Rattle.layout_laws.specs.ParseLaws.{parse}
 use Rattle.layout_laws.proofs.ParseLaws.{parse-step}
 use Rattle.layout_laws.specs.LastThree.{noted}
-use Rattle.checks.specs.Bound.{Kept}
+use Rattle.checks.specs.Scope.{Kept}
 use Rattle.term_words.specs.Ends.{end_of, Scope, bound, Met, field_head, sign, FieldHeader, method_head, MethodHeader, fields_well, methods_well, terms_end, Leaf, Opened, TermEnds, Left, FieldsEnd, MethodsEnd, FormEnds}
 use Rattle.term_words.specs.ScopeLaws.{method-bound}
 use Rattle.term_words.specs.NameLaws.{signed_word, met-noted}

@@ -17,7 +17,7 @@ use Rattle.layout.specs.Terms.{count_inits, count_methods}
 use Rattle.layout_laws.specs.Parse.{parts, formed, parse_inits, parse_methods}
 use Rattle.layout_laws.proofs.ParseSound.{inits-sound, methods-sound}
 use Rattle.layout_laws.specs.ParseLaws.{parse}
-use Rattle.checks.specs.Bound.{Swapped, Kept}
+use Rattle.checks.specs.Scope.{Swapped, Kept}
 use Rattle.layout_laws.specs.Fitting.{each_all, count-inits, count-methods}
 use Rattle.layout_laws.specs.Signatures.{signed, Below}
 use Rattle.layout_laws.proofs.Signatures.{signed-distinct}

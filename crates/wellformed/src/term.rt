@@ -4,11 +4,12 @@ ghost use Rattle.decoding.specs.ValidTest.{well_formed};
 ghost use Rattle.layout.specs.Numbers.{payload, bodies_size};
 ghost use Rattle.layout_laws.specs.Parse.{parse_methods};
 ghost use Rattle.layout_laws.specs.ParseLaws.{parse};
-ghost use Rattle.checks.specs.Bound.{Kept};
+ghost use Rattle.checks.specs.Scope.{Kept};
 ghost use Rattle.term_words.specs.Kinds.{allowed};
 ghost use Rattle.term_words.specs.Words.{holds};
 ghost use Rattle.term_words.specs.Ends.{end_of, methods_hold, Behind, bound, Leaf, Unlisted, Operands, Closed, TermEnds, FormEnds, LiteralEnds, PartsEnd, FieldsEnd, MethodsEnd};
 
+use checks::scope;
 use layout::{DIGIT, NAME_LIMIT, NO_NAME, PAIR_LIMIT, PAYLOAD, TAGGED_LIMIT};
 use term_words::{Owner, header, scopes};
 
@@ -173,9 +174,9 @@ impl Terms<'_> {
         ensures kept { Kept scope.old scope.new }
         ensures behind { Behind self.now.words.now at result }
     {
-        let old = scopes::bind(scope, e.level, names);
+        let old = scope::bind(scope, u64::from(names), e.level);
         let r = self.term(at, scope, e);
-        scopes::unbind(scope, names, old);
+        scope::unbind(scope, u64::from(names), old);
         r
     }
 
@@ -191,9 +192,9 @@ impl Terms<'_> {
             return None;
         }
         let a = self.term(at, scope, e)?;
-        let old = scopes::swap(scope, x as usize, e.level);
+        let old = scope::swap(scope, x as usize, e.level);
         let r = self.term(a, scope, e);
-        scopes::swap(scope, x as usize, old);
+        scope::swap(scope, x as usize, old);
         r
     }
 
@@ -227,9 +228,9 @@ impl Terms<'_> {
         let refs = scopes::refers(e.refs, h);
         let n = (p % DIGIT) as usize;
         let m = (p / DIGIT % DIGIT) as usize;
-        let old = scopes::swap(scope, 0, level);
+        let old = scope::swap(scope, 0, level);
         let r = self.parts(at, n, m, scope, Place { refs, level });
-        scopes::swap(scope, 0, old);
+        scope::swap(scope, 0, old);
         r
     }
 

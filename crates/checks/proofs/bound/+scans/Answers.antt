@@ -37,3 +37,6 @@ scan-returns-clause-kept t c = search scan_laws
 
 pub scan_inside-returns-clause-kept : goal.scan_inside-returns-clause-kept
 scan_inside-returns-clause-kept t c = search scan_laws
+
+pub scan_inside-returns-clause-scanned : goal.scan_inside-returns-clause-scanned
+scan_inside-returns-clause-scanned t c = search scan_laws

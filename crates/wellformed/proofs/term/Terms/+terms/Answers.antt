@@ -169,3 +169,6 @@ term-loop-left-preserved t c =
 
 pub term-returns-clause-term_ends : goal.term-returns-clause-term_ends
 term-returns-clause-term_ends t c = search left_laws
+
+pub inside-returns-clause-term_ends : goal.inside-returns-clause-term_ends
+inside-returns-clause-term_ends t c = search binder_laws

@@ -2,7 +2,7 @@
 -- term keeps that what is left of it are so many terms further on.
 use Rattle.std.proofs.Common.{◌+◌, ◌*◌, ◌-◌, ◌≤◌, max, length}
 use Rattle.layout.specs.Numbers.{third_place}
-use Rattle.checks.specs.Bound.{Kept}
+use Rattle.checks.specs.Scope.{Kept}
 use Rattle.term_words.specs.Words.{holds}
 use Rattle.term_words.specs.Ends.{Left}
 use Rattle.wellformed.proofs.term.Terms.+terms.Given as goal
