@@ -2,34 +2,38 @@
 // under the names that specs/Numbers.antt has them by.
 #![tactic(auto)]
 
+pub mod entity;
+pub mod kind;
+pub mod tag;
+
 // Where a word's kind stands, and the greatest number below it; headers begin at the last.
 pub const PAYLOAD: u32 = 16777216;
 
 pub const MOST: u32 = PAYLOAD - 1;
 
-pub const HEADER: u32 = 128 * PAYLOAD;
+pub const HEADER: u32 = kind::FIELD * PAYLOAD;
 
 // A method's header begins with the third of these.
 pub const METHOD_UNIT: u32 = 64 * PAYLOAD;
 
 // Words with the payload 0, by their kinds.
-pub const NULL: u32 = PAYLOAD;
+pub const NULL: u32 = kind::NULL * PAYLOAD;
 
-pub const NUMBER: u32 = 2 * PAYLOAD;
+pub const NUMBER: u32 = kind::NUMBER * PAYLOAD;
 
-pub const REFERENCE: u32 = 3 * PAYLOAD;
+pub const REFERENCE: u32 = kind::REFERENCE * PAYLOAD;
 
-pub const VARIABLE: u32 = 6 * PAYLOAD;
+pub const VARIABLE: u32 = kind::VARIABLE * PAYLOAD;
 
-pub const SET: u32 = 10 * PAYLOAD;
+pub const SET: u32 = kind::SET * PAYLOAD;
 
-pub const LET: u32 = 11 * PAYLOAD;
+pub const LET: u32 = kind::LET * PAYLOAD;
 
-pub const FUTURE: u32 = 12 * PAYLOAD;
+pub const FUTURE: u32 = kind::FUTURE * PAYLOAD;
 
-pub const CALL: u32 = 13 * PAYLOAD;
+pub const CALL: u32 = kind::CALL * PAYLOAD;
 
-pub const SEND: u32 = 14 * PAYLOAD;
+pub const SEND: u32 = kind::SEND * PAYLOAD;
 
 // Words that a load or a move writes: `this` and the hidden words as variables, lets of these, and a future of .f and .r.
 pub const THIS: u32 = VARIABLE;
@@ -55,7 +59,7 @@ pub const LET_S: u32 = LET + 5;
 pub const FUTURE_FR: u32 = FUTURE + 2 + 3 * NAME_LIMIT;
 
 // A function: an object with one method, `apply`, whose header has the parameter 0 here.
-pub const FUNCTION: u32 = 15 * PAYLOAD + DIGIT;
+pub const FUNCTION: u32 = kind::OBJECT * PAYLOAD + DIGIT;
 
 pub const APPLY_HEADER: u32 = 3 * METHOD_UNIT
     + 7
@@ -64,11 +68,11 @@ pub const APPLY_HEADER: u32 = 3 * METHOD_UNIT
     + NO_NAME * THIRD_PLACE;
 
 // A call and a send of .resolve, a send of .register and one of `apply`, each with one argument.
-pub const CALL_RESOLVE: u32 = CALL + 2 * NAME_LIMIT + TAGGED_LIMIT;
+pub const CALL_RESOLVE: u32 = CALL + tag::RESOLVE * NAME_LIMIT + TAGGED_LIMIT;
 
-pub const SEND_RESOLVE: u32 = SEND + 2 * NAME_LIMIT + TAGGED_LIMIT;
+pub const SEND_RESOLVE: u32 = SEND + tag::RESOLVE * NAME_LIMIT + TAGGED_LIMIT;
 
-pub const SEND_REGISTER: u32 = SEND + 3 * NAME_LIMIT + TAGGED_LIMIT;
+pub const SEND_REGISTER: u32 = SEND + tag::REGISTER * NAME_LIMIT + TAGGED_LIMIT;
 
 pub const SEND_APPLY: u32 = SEND + 7 + TAGGED_LIMIT;
 
