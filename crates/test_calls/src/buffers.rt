@@ -13,10 +13,7 @@ fn name(rt: &impl Print, text: &str) -> io::Result<()> {
 
 // The words that a call may have written: none where it was refused.
 fn published(done: bool, n: usize) -> usize {
-    if done {
-        return n;
-    }
-    0
+    if done { n } else { 0 }
 }
 
 // Reads into the first `n` words.
@@ -24,7 +21,7 @@ fn read_part(rt: &impl Print, text: &[u8], table: &mut [u32], n: usize) -> io::R
     if table.len() < n {
         return Ok(false);
     }
-    says::tabled(rt, engine::read(text, &mut table[..n]))
+    says::done(rt, engine::read(text, &mut table[..n]))
 }
 
 // Prints into the first `n` bytes.
@@ -32,7 +29,7 @@ fn print_part(rt: &impl Print, table: &[u32], text: &mut [u8], n: usize) -> io::
     if text.len() < n {
         return Ok(0);
     }
-    says::printed(rt, engine::print(table, &mut text[..n]))
+    says::bytes(rt, engine::print(table, &mut text[..n]))
 }
 
 // Loads into the first `n` words.
@@ -40,7 +37,7 @@ fn load_part(rt: &impl Print, table: &[u32], state: &mut [u32], n: usize) -> io:
     if state.len() < n {
         return Ok(false);
     }
-    says::loaded(rt, engine::load(table, &mut state[..n]))
+    says::done(rt, engine::load(table, &mut state[..n]))
 }
 
 // Moves an actor of the first `n` words.
@@ -64,7 +61,7 @@ fn list_part(rt: &impl Print, state: &[u32], text: &mut [u8], n: usize) -> io::R
     if text.len() < n {
         return Ok(0);
     }
-    says::listed(rt, engine::list(state, &mut text[..n]))
+    says::bytes(rt, engine::list(state, &mut text[..n]))
 }
 
 // Lists the first `n` words.
@@ -125,8 +122,8 @@ fn load_cut(rt: &impl Print, what: &str, table: &[u32], k: usize) -> io::Result<
 fn move_in(rt: &impl Print, what: &str, table: &[u32], n: usize, actor: u8) -> io::Result<()> {
     let mut state = [7u32; 16400];
     let mut before = [7u32; 16400];
-    engine::load(table, &mut state);
-    engine::load(table, &mut before);
+    let _ = engine::load(table, &mut state);
+    let _ = engine::load(table, &mut before);
     name(rt, what)?;
     let done = move_part(rt, &mut state, n, actor)?;
     says::kept(rt, &state, &before, published(done, 16384))
@@ -136,8 +133,8 @@ fn move_in(rt: &impl Print, what: &str, table: &[u32], n: usize, actor: u8) -> i
 fn run_in(rt: &impl Print, what: &str, table: &[u32], n: usize, entries: &[u8]) -> io::Result<()> {
     let mut state = [7u32; 16400];
     let mut before = [7u32; 16400];
-    engine::load(table, &mut state);
-    engine::load(table, &mut before);
+    let _ = engine::load(table, &mut state);
+    let _ = engine::load(table, &mut before);
     name(rt, what)?;
     let done = run_part(rt, &mut state, n, entries)?;
     says::kept(
@@ -152,7 +149,7 @@ fn run_in(rt: &impl Print, what: &str, table: &[u32], n: usize, entries: &[u8]) 
 fn list_in(rt: &impl Print, what: &str, table: &[u32], n: usize, room: usize) -> io::Result<()> {
     let mut state = [7u32; 16400];
     let mut text = [b'.'; 2000];
-    engine::load(table, &mut state);
+    let _ = engine::load(table, &mut state);
     name(rt, what)?;
     let bytes = list_words(rt, &state, n, &mut text, room)?;
     says::kept_bytes(rt, &text, bytes)
@@ -209,8 +206,8 @@ pub(crate) fn all(rt: &impl Print, text: &[u8], large: &[u8]) -> io::Result<()> 
     let mut table = [7u32; 1300];
     let mut wide = [7u32; 1300];
     let none = [7u32; 1300];
-    engine::read(text, &mut table);
-    engine::read(large, &mut wide);
+    let _ = engine::read(text, &mut table);
+    let _ = engine::read(large, &mut wide);
     scripts(rt, text, &table, &none)?;
     states(rt, &table, &wide, &none)?;
     moves(rt, &table, &none)

@@ -3,7 +3,7 @@
 ghost use Rattle.std.specs.Prelude.{◌≤◌, length};
 
 use crate::says;
-use atlite::{ActorNo, Listed};
+use atlite::ActorNo;
 use std::io;
 
 // A run, and what it answers.
@@ -60,21 +60,15 @@ fn listing(state: &[u32], text: &mut [u8]) -> usize
     ensures { result ≤ length text.new }
 {
     let room = text.len();
-    let l = engine::list(state, text);
-    match l {
-        Listed::Bytes(n) => {
-            if room < n {
-                return 0;
-            }
-            n
-        }
-        Listed::Refused(_) => 0,
+    match engine::list(state, text) {
+        Ok(n) if n <= room => n,
+        _ => 0,
     }
 }
 
 // Whether two listings are the same; what is said of the words goes on the same line.
 fn same(rt: &impl Print, a: &[u8], b: &[u8]) -> io::Result<()> {
-    if check::same(a, b) {
+    if *a == *b {
         return print!(rt; "the listings are equal");
     }
     print!(rt; "the listings differ")
@@ -85,9 +79,9 @@ pub(crate) fn both(rt: &impl Print, text: &[u8]) -> io::Result<()> {
     let mut table = [0u32; 1280];
     let mut one = [0u32; 16384];
     let mut two = [0u32; 16384];
-    engine::read(text, &mut table);
-    engine::load(&table, &mut one);
-    engine::load(&table, &mut two);
+    let _ = engine::read(text, &mut table);
+    let _ = engine::load(&table, &mut one);
+    let _ = engine::load(&table, &mut two);
     in_turn(rt, &mut one)?;
     let mut first = [0u8; 4096];
     let n = listing(&one, &mut first);

@@ -6,7 +6,7 @@ mod buffers;
 mod lists;
 mod says;
 
-use input::Input;
+use input::Unread;
 use std::io;
 use std::rt::Files;
 
@@ -14,22 +14,20 @@ use std::rt::Files;
 #[tactic(auto, using(input::specs::Within::counted))]
 fn with_scripts<R: Files + Print + Eprint>(rt: &R, script: &[u8]) -> io::Result<()> {
     let mut large = [0u8; 4096];
-    let r = input::read_file(rt, b"large", &mut large);
-    match r {
-        Input::Bytes(n) => {
+    match input::read_file(rt, b"large", &mut large) {
+        Ok(n) => {
             lists::both(rt, script)?;
             buffers::all(rt, script, &large[..n])
         }
-        Input::Unread => rt.write_all(&input::UNREAD),
+        Err(Unread) => rt.write_all(&input::UNREAD),
     }
 }
 
 #[tactic(auto, using(input::specs::Within::counted))]
 fn main(rt: HostRuntime) -> io::Result<()> {
     let mut script = [0u8; 4096];
-    let r = input::read_file(&rt, b"script", &mut script);
-    match r {
-        Input::Bytes(n) => with_scripts(&rt, &script[..n]),
-        Input::Unread => rt.write_all(&input::UNREAD),
+    match input::read_file(&rt, b"script", &mut script) {
+        Ok(n) => with_scripts(&rt, &script[..n]),
+        Err(Unread) => rt.write_all(&input::UNREAD),
     }
 }

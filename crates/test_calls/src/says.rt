@@ -1,160 +1,74 @@
 // What is printed of a call: its answer, and whether words and bytes are as they were.
-use atlite::{Listed, Loaded, Moved, Printed, Ran, Tabled};
+use atlite::{Cause, Moved, Ran};
 use std::io;
 
-// Prints a word and a number.
-fn numbered(rt: &impl Print, word: &str, n: u64) -> io::Result<()> {
-    print!(rt; "{word}{n}")
+// The cause of a call that was refused.
+fn refused(rt: &impl Print, cause: Cause) -> io::Result<()> {
+    let n = cause.number();
+    print!(rt; "refused {n}")
 }
 
-// What a move answers.
-pub(crate) fn moved(rt: &impl Print, r: Moved) -> io::Result<bool> {
-    match r {
-        Moved::Inner => {
-            print!(rt; "moved")?;
-            Ok(true)
+// What a move did, and whether it was made.
+pub(crate) fn moved(rt: &impl Print, answer: Result<Moved, Cause>) -> io::Result<bool> {
+    match answer {
+        Ok(Moved::Inner) => print!(rt; "moved")?,
+        Ok(Moved::Taken) => print!(rt; "taken")?,
+        Ok(Moved::Sent(to)) => {
+            let n = to.0;
+            print!(rt; "sent to {n}")?
         }
-        Moved::Taken => {
-            print!(rt; "taken")?;
-            Ok(true)
+        Ok(Moved::Created(new)) => {
+            let n = new.0;
+            print!(rt; "created {n}")?
         }
-        Moved::Sent(a) => {
-            numbered(rt, "sent to ", a.0 as u64)?;
-            Ok(true)
-        }
-        Moved::Created(a) => {
-            numbered(rt, "created ", a.0 as u64)?;
-            Ok(true)
-        }
-        Moved::Refused(n) => {
-            numbered(rt, "refused ", n as u64)?;
-            Ok(false)
-        }
+        Err(cause) => refused(rt, cause)?,
     }
+    Ok(answer.is_ok())
 }
 
-// What a run answers.
-pub(crate) fn ran(rt: &impl Print, r: Ran) -> io::Result<bool> {
-    match r {
-        Ran::Entries {
-            moves: m,
-            refusals: n,
-        } => {
-            numbered(rt, "moves ", m as u64)?;
-            numbered(rt, ", refusals ", n as u64)?;
-            Ok(true)
-        }
-        Ran::Refused(n) => {
-            numbered(rt, "refused ", n as u64)?;
-            Ok(false)
-        }
+// What a run came to, and whether it was made.
+pub(crate) fn ran(rt: &impl Print, answer: Result<Ran, Cause>) -> io::Result<bool> {
+    match answer {
+        Ok(Ran { moves, refusals }) => print!(rt; "moves {moves}, refusals {refusals}")?,
+        Err(cause) => refused(rt, cause)?,
     }
+    Ok(answer.is_ok())
 }
 
-// What reading a text answers.
-pub(crate) fn tabled(rt: &impl Print, r: Tabled) -> io::Result<bool> {
-    match r {
-        Tabled::Done => {
-            print!(rt; "done")?;
-            Ok(true)
-        }
-        Tabled::Refused(n) => {
-            numbered(rt, "refused ", n as u64)?;
-            Ok(false)
-        }
+// What reading a text or loading a table came to, and whether it was done.
+pub(crate) fn done(rt: &impl Print, answer: Result<(), Cause>) -> io::Result<bool> {
+    match answer {
+        Ok(()) => print!(rt; "done")?,
+        Err(cause) => refused(rt, cause)?,
     }
+    Ok(answer.is_ok())
 }
 
-// What loading answers.
-pub(crate) fn loaded(rt: &impl Print, r: Loaded) -> io::Result<bool> {
-    match r {
-        Loaded::Done => {
-            print!(rt; "done")?;
-            Ok(true)
-        }
-        Loaded::Refused(n) => {
-            numbered(rt, "refused ", n as u64)?;
-            Ok(false)
-        }
+// What printing or listing came to, and how many bytes were written.
+pub(crate) fn bytes(rt: &impl Print, answer: Result<usize, Cause>) -> io::Result<usize> {
+    match answer {
+        Ok(n) => print!(rt; "bytes {n}")?,
+        Err(cause) => refused(rt, cause)?,
     }
-}
-
-// What printing answers; gives the number of bytes.
-pub(crate) fn printed(rt: &impl Print, r: Printed) -> io::Result<usize> {
-    match r {
-        Printed::Bytes(n) => {
-            numbered(rt, "bytes ", n as u64)?;
-            Ok(n)
-        }
-        Printed::Refused(n) => {
-            numbered(rt, "refused ", n as u64)?;
-            Ok(0)
-        }
-    }
-}
-
-// What listing answers; gives the number of bytes.
-pub(crate) fn listed(rt: &impl Print, r: Listed) -> io::Result<usize> {
-    match r {
-        Listed::Bytes(n) => {
-            numbered(rt, "bytes ", n as u64)?;
-            Ok(n)
-        }
-        Listed::Refused(n) => {
-            numbered(rt, "refused ", n as u64)?;
-            Ok(0)
-        }
-    }
-}
-
-// The word at `i`, 0 where there is none.
-fn word_at(words: &[u32], i: usize) -> u32 {
-    if words.len() <= i {
-        return 0;
-    }
-    words[i]
-}
-
-// Where words from `from` on first differ from those before; their length where they do not.
-fn difference(words: &[u32], before: &[u32], from: usize) -> usize {
-    for i in from..words.len() {
-        if word_at(words, i) != word_at(before, i) {
-            return i;
-        }
-    }
-    words.len()
+    Ok(answer.unwrap_or(0))
 }
 
 // Prints whether the words from `from` on are those before.
 pub(crate) fn kept(rt: &impl Print, words: &[u32], before: &[u32], from: usize) -> io::Result<()> {
-    let at = difference(words, before, from);
-    if at < words.len() {
-        numbered(rt, "; word ", at as u64)?;
-        numbered(rt, " is ", word_at(words, at) as u64)?;
-        numbered(rt, " and was ", word_at(before, at) as u64)?;
-        return println!(rt);
-    }
-    numbered(rt, "; the same from word ", from as u64)?;
-    println!(rt)
-}
-
-// Where bytes from `from` on are first another than the point that was there; their length where they are not.
-fn written(text: &[u8], from: usize) -> usize {
-    for i in from..text.len() {
-        if text[i] != b'.' {
-            return i;
+    for (i, (now, was)) in words.iter().zip(before).enumerate().skip(from) {
+        if *now != *was {
+            return println!(rt; "; word {i} is {now} and was {was}");
         }
     }
-    text.len()
+    println!(rt; "; the same from word {from}")
 }
 
 // Prints whether the bytes from `from` on are the points that were there.
 pub(crate) fn kept_bytes(rt: &impl Print, text: &[u8], from: usize) -> io::Result<()> {
-    let at = written(text, from);
-    if at < text.len() {
-        numbered(rt, "; written at ", at as u64)?;
-        return println!(rt);
+    for (i, b) in text.iter().enumerate().skip(from) {
+        if *b != b'.' {
+            return println!(rt; "; written at {i}");
+        }
     }
-    numbered(rt, "; the same from byte ", from as u64)?;
-    println!(rt)
+    println!(rt; "; the same from byte {from}")
 }

@@ -8,8 +8,8 @@
 
 ghost use Rattle.std.specs.Prelude.{◌+◌, ◌≤◌, ◌≡◌, length, IfOk};
 
-use atlite::{ActorNo, Moved};
-use input::{Input, digits};
+use atlite::{ActorNo, Cause, Moved};
+use input::{Unread, digits};
 use std::io;
 use std::rt::Files;
 
@@ -27,59 +27,31 @@ struct Tally {
 }
 
 // Sets the word at `i`, if there is one and the number fits.
-fn set_word(words: &mut [u32], i: usize, v: u64) {
-    if words.len() <= i {
-        return;
+fn set_word(words: &mut [u32; STATE], i: usize, v: u64) {
+    if let (Some(word), Ok(v)) = (words.get_mut(i), u32::try_from(v)) {
+        *word = v;
     }
-    if 4294967295 < v {
-        return;
-    }
-    words[i] = v as u32;
 }
 
 // The word at `i`, 0 where there is none.
-fn word_at(words: &[u32], i: usize) -> u32 {
-    if words.len() <= i {
-        return 0;
-    }
-    words[i]
-}
-
-// Sets `n` words from `i` on to the number.
-fn fill(words: &mut [u32], i: usize, n: usize, v: u64)
-    requires { (i ≤ 99999) × (n ≤ 99999) }
-{
-    for k in 0..n {
-        set_word(words, i + k, v);
-    }
+fn word_at(words: &[u32; STATE], i: usize) -> u32 {
+    words.get(i).copied().unwrap_or(0)
 }
 
 // Repeats the word before `i` in the `n` words from there on.
-fn repeat(words: &mut [u32], i: usize, n: usize)
-    requires { (i ≤ 99999) × (n ≤ 99999) }
-{
+fn repeat(words: &mut [u32; STATE], i: usize, n: usize) {
     if i == 0 {
         return;
     }
-    let v = word_at(words, i - 1) as u64;
-    fill(words, i, n, v);
-}
-
-// Makes the words of a state in `to` those of `from`.
-fn copy(from: &[u32], to: &mut [u32]) {
-    for i in 0..STATE {
-        set_word(to, i, word_at(from, i) as u64);
+    let v = word_at(words, i - 1);
+    for word in words.iter_mut().skip(i).take(n) {
+        *word = v;
     }
 }
 
-// Where the words of two states first differ; the length of a state where they do not.
-fn difference(a: &[u32], b: &[u32]) -> usize {
-    for i in 0..STATE {
-        if word_at(a, i) != word_at(b, i) {
-            return i;
-        }
-    }
-    STATE
+// Where the words of two states first differ.
+fn difference(a: &[u32; STATE], b: &[u32; STATE]) -> Option<usize> {
+    a.iter().zip(b).position(|(x, y)| *x != *y)
 }
 
 // A number for an answer with an actor in it; 99 where there is no such actor.
@@ -89,17 +61,17 @@ fn with_actor(tens: u64, actor: u8) -> u64
     if 3 < actor {
         return 99;
     }
-    tens + actor as u64
+    tens + u64::from(actor)
 }
 
 // The number of an answer: a cause, 20 for an inner move, 30 for a message taken, 40 and 50 with the actor for one sent and one created.
-fn answer_number(answer: Moved) -> u64 {
+fn answer_number(answer: Result<Moved, Cause>) -> u64 {
     match answer {
-        Moved::Inner => 20,
-        Moved::Taken => 30,
-        Moved::Sent(to) => with_actor(40, to.0),
-        Moved::Created(new) => with_actor(50, new.0),
-        Moved::Refused(cause) => cause as u64,
+        Ok(Moved::Inner) => 20,
+        Ok(Moved::Taken) => 30,
+        Ok(Moved::Sent(to)) => with_actor(40, to.0),
+        Ok(Moved::Created(new)) => with_actor(50, new.0),
+        Err(cause) => u64::from(cause.number()),
     }
 }
 
@@ -108,49 +80,33 @@ fn actor(entry: &[u8]) -> u8
     requires { 19 ≤ length entry.now }
 {
     let n = digits::two(entry, 2) * 10 + digits::digit(entry[4]);
-    if 255 < n {
-        return 255;
-    }
-    n as u8
+    u8::try_from(n).unwrap_or(u8::MAX)
 }
 
-// Prints of a move that does not agree what was answered, and the first word that is another than expected.
-fn complain(
+// Whether the move of the record has the answer and leaves the words that are expected. It is made on a copy. Of one that does not agree it
+// prints what was answered, and the first word that is another than expected.
+fn agrees(
     rt: &impl Print,
-    name: &[u8],
-    answer: u64,
-    at: usize,
-    word: u32,
-    expected: u32,
-) -> io::Result<()> {
-    rt.write_all(name)?;
-    print!(rt; "answer {answer}")?;
-    if at < STATE {
-        print!(rt; ", word {at} is {word} and not {expected}")?;
-    }
-    rt.write_all(b"\n")
-}
-
-// Whether the move of the record has the answer and leaves the words that are expected. It is made on a copy.
-fn agrees(rt: &impl Print, entry: &[u8], start: &[u32], expected: &[u32]) -> io::Result<bool>
+    entry: &[u8],
+    start: &[u32; STATE],
+    expected: &[u32; STATE],
+) -> io::Result<bool>
     requires { length entry.now ≡ 19 }
 {
-    let mut words = [0u32; 16384];
-    copy(start, &mut words);
-    let r = engine::move_actor(&mut words, ActorNo(actor(entry)));
-    let n = answer_number(r);
-    let at = difference(&words, expected);
-    if n == digits::two(entry, 6) as u64 && at == STATE {
+    let mut words = *start;
+    let answer = answer_number(engine::move_actor(&mut words, ActorNo(actor(entry))));
+    let differs = difference(&words, expected);
+    if answer == digits::two(entry, 6) as u64 && differs.is_none() {
         return Ok(true);
     }
-    complain(
-        rt,
-        &entry[9..18],
-        n,
-        at,
-        word_at(&words, at),
-        word_at(expected, at),
-    )?;
+    rt.write_all(&entry[9..18])?;
+    print!(rt; "answer {answer}")?;
+    if let Some(at) = differs {
+        let word = word_at(&words, at);
+        let stored = word_at(expected, at);
+        print!(rt; ", word {at} is {word} and not {stored}")?;
+    }
+    rt.write_all(b"\n")?;
     Ok(false)
 }
 
@@ -159,15 +115,9 @@ fn counted(t: Tally, agreed: bool) -> Tally
     requires { (t.all ≤ 65536) × (t.agreed ≤ t.all) }
     ensures { (result.all ≡ t.all + 1) × (result.agreed ≤ result.all) }
 {
-    if agreed {
-        return Tally {
-            all: t.all + 1,
-            agreed: t.agreed + 1,
-        };
-    }
     Tally {
         all: t.all + 1,
-        agreed: t.agreed,
+        agreed: t.agreed + u64::from(agreed),
     }
 }
 
@@ -181,7 +131,7 @@ fn cut_short(rt: &impl Print, t: Tally) -> io::Result<Tally>
 }
 
 // Does what one record says to the words, where it is no move.
-fn follow(entry: &[u8], start: &mut [u32], expected: &mut [u32])
+fn follow(entry: &[u8], start: &mut [u32; STATE], expected: &mut [u32; STATE])
     requires { length entry.now ≡ 19 }
 {
     let i = digits::five(entry, 2);
@@ -199,8 +149,8 @@ fn follow(entry: &[u8], start: &mut [u32], expected: &mut [u32])
         b'e' => set_word(expected, i, v),
         b'f' => repeat(expected, i, low),
         _ => {
-            fill(start, 0, STATE, 0);
-            fill(expected, 0, STATE, 0);
+            *start = [0; STATE];
+            *expected = [0; STATE];
         }
     }
 }
@@ -209,14 +159,14 @@ fn follow(entry: &[u8], start: &mut [u32], expected: &mut [u32])
 fn go_through(
     rt: &impl Print,
     records: &[u8],
-    start: &mut [u32],
-    expected: &mut [u32],
+    start: &mut [u32; STATE],
+    expected: &mut [u32; STATE],
     t: Tally,
 ) -> io::Result<Tally>
     requires { (t.all + length records.now ≤ 65536) × (t.agreed ≤ t.all) }
     ensures { IfOk result (λ u. (u.all ≤ 65536) × (u.agreed ≤ u.all)) }
 {
-    if records.len() == 0 {
+    if records.is_empty() {
         return Ok(t);
     }
     if records.len() < RECORD {
@@ -224,7 +174,7 @@ fn go_through(
     }
     if records[0] == b'm' {
         let u = counted(t, agrees(rt, &records[..RECORD], start, expected)?);
-        copy(start, expected);
+        *expected = *start;
         return go_through(rt, &records[RECORD..], start, expected, u);
     }
     follow(&records[..RECORD], start, expected);
@@ -242,8 +192,8 @@ fn make_moves(rt: &impl Print, name: &str, records: &[u8], before: Tally) -> io:
     requires { (length records.now ≤ 65536) × (before.all ≤ 16777216) × (before.agreed ≤ before.all) }
     ensures { IfOk result (λ t. (t.all ≤ before.all + 65536) × (t.agreed ≤ t.all)) }
 {
-    let mut start = [0u32; 16384];
-    let mut expected = [0u32; 16384];
+    let mut start = [0u32; STATE];
+    let mut expected = [0u32; STATE];
     let t = go_through(
         rt,
         records,
@@ -266,10 +216,9 @@ fn group<R: Files + Print + Eprint>(rt: &R, name: &str, before: Tally) -> io::Re
     ensures { IfOk result (λ t. (t.all ≤ before.all + 65536) × (t.agreed ≤ t.all)) }
 {
     let mut data = [0u8; 65536];
-    let r = input::read_file(rt, name.as_bytes(), &mut data);
-    match r {
-        Input::Bytes(n) => make_moves(rt, name, &data[..n], before),
-        Input::Unread => {
+    match input::read_file(rt, name.as_bytes(), &mut data) {
+        Ok(n) => make_moves(rt, name, &data[..n], before),
+        Err(Unread) => {
             rt.write_all(&input::UNREAD)?;
             Ok(Tally {
                 all: before.all + 1,

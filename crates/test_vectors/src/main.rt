@@ -6,10 +6,10 @@
 // then the input, and what is to be written.
 #![tactic(auto)]
 
-ghost use Rattle.std.specs.Prelude.{◌+◌, ◌≤◌, length};
+ghost use Rattle.std.specs.Prelude.{◌≤◌, length};
 ghost use Rattle.play.specs.Limits.{replay_room};
 
-use input::{Input, digits};
+use input::{Unread, digits};
 use std::io::Read;
 use std::rt::Files;
 use std::{fs, io};
@@ -24,15 +24,6 @@ enum Program {
     Replay,
 }
 
-// What a record came to.
-#[derive(Clone, Copy)]
-enum Came {
-    Agreed,
-    Differed,
-    Ended,
-    Unread,
-}
-
 // Writes what the program writes for `input`.
 fn play_input(program: Program, input: &[u8], out: &mut [u8]) -> usize
     requires { replay_room ≤ length out.old }
@@ -44,61 +35,42 @@ fn play_input(program: Program, input: &[u8], out: &mut [u8]) -> usize
     }
 }
 
-// Plays the first `n` bytes of `input` and compares with the first `m` of `stored`.
-fn compare(program: Program, input: &[u8], n: usize, stored: &[u8], m: usize) -> Came {
-    if input.len() < n {
-        return Came::Differed;
-    }
-    if stored.len() < m {
-        return Came::Differed;
-    }
+// Whether the program writes `stored` for `input`.
+fn agrees(program: Program, input: &[u8], stored: &[u8]) -> bool {
     let mut out = [0u8; play::ROOM];
-    let k = play_input(program, &input[..n], &mut out);
-    if check::same(&out[..k], &stored[..m]) {
-        return Came::Agreed;
-    }
-    Came::Differed
+    let k = play_input(program, input, &mut out);
+    out[..k] == stored[..]
 }
 
-// Reads `n` bytes to the front of `buffer`, and says whether they were there.
-fn fill<R: Read>(file: &mut R, buffer: &mut [u8], n: usize) -> bool {
-    if buffer.len() < n {
-        return false;
-    }
-    let r = input::read_all(file, &mut buffer[..n]);
-    match r {
-        Input::Bytes(k) => k == n,
-        Input::Unread => false,
+// Reads as many bytes as `buffer` has, and says whether they were there.
+fn fill<R: Read>(file: &mut R, buffer: &mut [u8]) -> bool {
+    let n = buffer.len();
+    match input::read_all(file, buffer) {
+        Ok(k) => k == n,
+        Err(Unread) => false,
     }
 }
 
-// What stands behind the head of a record. A record that is cut short or too long agrees with nothing.
-fn play_next<R: Read>(program: Program, file: &mut R, head: &[u8; 12]) -> Came {
+// Whether what stands behind the head of a record agrees. A record that is cut short or too long agrees with nothing.
+fn rest_agrees<R: Read>(program: Program, file: &mut R, head: &[u8; 12]) -> bool {
     let n = digits::five(head, 0);
     let m = digits::five(head, 6);
     let mut input = [0u8; play::INPUT];
     let mut stored = [0u8; 65536];
-    if fill(file, &mut input, n) {
-        if fill(file, &mut stored, m) {
-            return compare(program, &input, n, &stored, m);
-        }
-    }
-    Came::Differed
+    n <= input.len()
+        && fill(file, &mut input[..n])
+        && m <= stored.len()
+        && fill(file, &mut stored[..m])
+        && agrees(program, &input[..n], &stored[..m])
 }
 
-// The next record. Where no byte of a head is there, the file has ended.
-fn next<R: Read>(program: Program, file: &mut R) -> Came {
+// Whether the next record agrees. Where no byte of a head is there, the file has ended.
+fn next<R: Read>(program: Program, file: &mut R) -> Result<Option<bool>, Unread> {
     let mut head = [0u8; 12];
-    let r = input::read_all(file, &mut head);
-    match r {
-        Input::Bytes(n) => {
-            if n == 0 {
-                return Came::Ended;
-            }
-            play_next(program, file, &head)
-        }
-        Input::Unread => Came::Unread,
+    if input::read_all(file, &mut head)? == 0 {
+        return Ok(None);
     }
+    Ok(Some(rest_agrees(program, file, &head)))
 }
 
 // Says how many of all records agree.
@@ -106,26 +78,17 @@ fn tell(rt: &impl Print, agreed: u64, all: u64) -> io::Result<()> {
     println!(rt; "{agreed} of {all} inputs are played as stored")
 }
 
-// Goes through at most `left` records more; of those before, `agreed` agree.
-fn go_through<R: Read>(
-    rt: &impl Print,
-    program: Program,
-    file: &mut R,
-    left: u64,
-    agreed: u64,
-) -> io::Result<()>
-    requires { agreed + left ≤ 1000 }
-{
-    if left == 0 {
-        return tell(rt, agreed, RECORDS);
+// Goes through the records.
+fn go_through<R: Read>(rt: &impl Print, program: Program, file: &mut R) -> io::Result<()> {
+    let mut agreed = 0;
+    for all in 0..RECORDS {
+        match next(program, file) {
+            Ok(Some(same)) => agreed += u64::from(same),
+            Ok(None) => return tell(rt, agreed, all),
+            Err(Unread) => return rt.write_all(&input::UNREAD),
+        }
     }
-    let came = next(program, file);
-    match came {
-        Came::Agreed => go_through(rt, program, file, left - 1, agreed + 1),
-        Came::Differed => go_through(rt, program, file, left - 1, agreed),
-        Came::Ended => tell(rt, agreed, RECORDS - left),
-        Came::Unread => rt.write_all(&input::UNREAD),
-    }
+    tell(rt, agreed, RECORDS)
 }
 
 // Plays the records of the file with this name.
@@ -133,7 +96,7 @@ fn play_file<R: Files + Print + Eprint>(rt: &R, program: Program, name: &str) ->
     match fs::open(rt, name) {
         Ok(mut file) => {
             print!(rt; "{name}: ")?;
-            go_through(rt, program, &mut file, RECORDS, 0)
+            go_through(rt, program, &mut file)
         }
         Err(e) => eprintln!(rt; "{name}: {e}"),
     }
