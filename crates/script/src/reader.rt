@@ -7,89 +7,67 @@ ghost use Rattle.script.specs.ReaderCauses.{Sized, Grammar, Scoped, Sound};
 
 use atlite::Tabled;
 use layout::TABLE;
-use parse::Source;
+use parse::{Parsed, Source};
+use scan::Vocabulary;
 
 // How many different words the text has.
-fn known(count: usize, apply: bool) -> usize
-    requires { count ≤ 2048 }
-    ensures { result ≡ count + (if apply then 1 else 0) }
+#[tactic(auto, using(crate::specs::ReaderCauses::laws))]
+fn different(known: &Vocabulary) -> usize
+    ensures { result ≡ known.now.count + (if known.now.apply then 1 else 0) }
 {
-    if apply {
-        return count + 1;
-    }
-    count
+    known.count + usize::from(known.apply)
 }
 
 // Causes 5: brackets, words, nodes. The table is written where none of them is found.
-fn limits(
-    text: &[u8],
-    s: &[u64; 4096],
-    words: usize,
-    lines: usize,
-    low: &[u64; 2048],
-    high: &[u32; 2048],
-    count: usize,
-    apply: bool,
-    table: &mut [u32],
-) -> Tabled
-    requires { Sound text.now table.old s.now low.now high.now words lines count apply }
+#[tactic(auto, using(crate::specs::ReaderCauses::laws))]
+fn limits(text: &[u8], s: &[u64; 4096], p: Parsed, known: &Vocabulary, table: &mut [u32]) -> Tabled
+    requires { Sound text.now table.old s.now known.now.low known.now.high p.words p.lines known.now.count known.now.apply }
     ensures { Reads text.now table.old result table.new }
 {
     let deepest = checks::depth::depth(text);
     if 32 < deepest {
         return Tabled::Refused(5);
     }
-    let different = known(count, apply);
-    if 64 < different {
+    if 64 < different(known) {
         return Tabled::Refused(5);
     }
-    let nodes = checks::size::size(s, words, lines);
+    let nodes = checks::size::size(s, p.words, p.lines);
     if 512 < nodes {
         return Tabled::Refused(5);
     }
-    checks::table::write_table(s, words, lines, low, high, count, table);
+    checks::table::write_table(
+        s,
+        p.words,
+        p.lines,
+        &known.low,
+        &known.high,
+        known.count,
+        table,
+    );
     Tabled::Done
 }
 
 // Cause 4, and what comes after it.
-fn lists(
-    text: &[u8],
-    s: &[u64; 4096],
-    words: usize,
-    lines: usize,
-    low: &[u64; 2048],
-    high: &[u32; 2048],
-    count: usize,
-    apply: bool,
-    table: &mut [u32],
-) -> Tabled
-    requires { Scoped text.now table.old s.now low.now high.now words lines count apply }
+#[tactic(auto, using(crate::specs::ReaderCauses::laws))]
+fn lists(text: &[u8], s: &[u64; 4096], p: Parsed, known: &Vocabulary, table: &mut [u32]) -> Tabled
+    requires { Scoped text.now table.old s.now known.now.low known.now.high p.words p.lines known.now.count known.now.apply }
     ensures { Reads text.now table.old result table.new }
 {
-    if checks::single::single(s, words, lines) {
-        return limits(text, s, words, lines, low, high, count, apply, table);
+    if checks::single::single(s, p.words, p.lines) {
+        return limits(text, s, p, known, table);
     }
     Tabled::Refused(4)
 }
 
 // Cause 3, and what comes after it.
-fn scopes(
-    text: &[u8],
-    s: &[u64; 4096],
-    words: usize,
-    lines: usize,
-    low: &[u64; 2048],
-    high: &[u32; 2048],
-    count: usize,
-    apply: bool,
-    table: &mut [u32],
-) -> Tabled
-    requires { Grammar text.now table.old s.now low.now high.now words lines count apply }
+#[tactic(auto, using(crate::specs::ReaderCauses::laws))]
+fn scopes(text: &[u8], s: &[u64; 4096], p: Parsed, known: &Vocabulary, table: &mut [u32]) -> Tabled
+    requires { Grammar text.now table.old s.now known.now.low known.now.high p.words p.lines known.now.count known.now.apply }
     ensures { Reads text.now table.old result table.new }
 {
     let mut last = [0u16; 4096];
-    if checks::bound::bound(s, words, lines, &mut last) {
-        return lists(text, s, words, lines, low, high, count, apply, table);
+    if checks::bound::bound(s, p.words, p.lines, &mut last) {
+        return lists(text, s, p, known, table);
     }
     Tabled::Refused(3)
 }
@@ -100,32 +78,28 @@ fn grammar(text: &[u8], table: &mut [u32]) -> Tabled
     requires { Sized text.now table.old }
     ensures { Reads text.now table.old result table.new }
 {
-    let mut low = [0u64; 2048];
-    let mut high = [0u32; 2048];
-    let found = scan::scan(text, &mut low, &mut high);
-    let count = found.count;
-    let apply = found.apply;
+    let mut known = Vocabulary::new();
+    scan::scan(text, &mut known);
     let mut s = [0u64; 4096];
     let source = Source {
         text,
-        low: &low,
-        high: &high,
-        count,
+        words: &known,
     };
     let Some(p) = parse::parse(&source, &mut s) else {
         return Tabled::Refused(2);
     };
-    scopes(text, &s, p.words, p.lines, &low, &high, count, apply, table)
+    scopes(text, &s, p, &known, table)
 }
 
 // Lengths, and what comes after them.
+#[tactic(auto, using(crate::specs::ParserAnswer::laws))]
 pub fn read_text(text: &[u8], table: &mut [u32]) -> Tabled
     ensures { Reads text.now table.old result table.new }
 {
     if table.len() < TABLE {
         return Tabled::Refused(6);
     }
-    if text.len() == 0 {
+    if text.is_empty() {
         return Tabled::Refused(1);
     }
     if 4096 < text.len() {
