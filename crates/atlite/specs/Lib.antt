@@ -27,6 +27,7 @@ pub mod Load
 pub mod Run
 pub mod Listing
 -- what the code answers, and what the programs print
+pub mod Causes
 pub mod Answers
 pub mod Program
 pub mod Loops

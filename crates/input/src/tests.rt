@@ -1,5 +1,5 @@
 // Reads that fail in the middle of an input, and inputs that are longer than the buffer.
-use super::{Input, read_all};
+use super::{Unread, read_all};
 use std::io;
 use std::io::Read;
 
@@ -22,11 +22,8 @@ impl<'a> Read for Halting<'a> {
 }
 
 // How many bytes were read; 99 where the input is unread.
-fn count(r: Input) -> usize {
-    match r {
-        Input::Bytes(n) => n,
-        Input::Unread => 99,
-    }
+fn count(r: Result<usize, Unread>) -> usize {
+    r.unwrap_or(99)
 }
 
 #[test]

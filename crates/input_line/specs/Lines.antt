@@ -1,7 +1,9 @@
 -- The line that an input begins with, and what the loop that looks for its end has to show: the bytes passed stand before the line that is
 -- left. Assumes nothing.
-use Rattle.std.specs.Prelude.{ℕ, ◌+◌, ◌-◌, ◌≤◌, ◌<◌, ◌≡◌, refl, get_or, if◌then◌else◌}
-use Rattle.std.proofs.Common.{sym, ◌∙◌, arith, add-one, rules, eq-eqb, ne_eqb, le-leb, length-append, length-drop, drop-cons, take_all, length-take-le}
+use Rattle.std.specs.Prelude as Code
+use Rattle.std.specs.Prelude.{Some, None, Bool, true, false, not, nat_eq, ltb, leb, cond, suc, zero, ℕ, ◌+◌, ◌-◌, ◌≤◌, ◌<◌, ◌≡◌, refl, get_or, if◌then◌else◌}
+use Rattle.std.proofs.lemmas.Bool.{false≢true, ltb-true, ltb-false, leb-true, leb-false, eqb-true}
+use Rattle.std.proofs.Common.{get_or-take, sym, ◌∙◌, arith, add-one, eq-eqb, ne_eqb, le-leb, length-append, length-drop, drop-cons, take_all, length-take-le}
 use Rattle.std.proofs.Math.Path.{ap}
 use mathlib.Core.List.{List, [], ◌∷◌, ◌++◌, append_assoc, append-nil}
 use Rattle.std.proofs.Math.Option.{Option, none, some}
@@ -9,8 +11,8 @@ use Rattle.std.proofs.lemmas.Bool.{lt-leb}
 use Rattle.std.proofs.Math.ListN.{length, take, drop, length-take}
 use Rattle.std.proofs.Math.Seq.{drop-length, take-suc}
 use Rattle.atlite.specs.Program.{Input, longer, split, short}
-use Rattle.input_line.specs.declared.Line.{Line}
-use Rattle.input_line.specs.declared.Line.TheVariants.{Ends, Unended}
+use Rattle.std.specs.List.{position, position_or_len}
+use Rattle.std.proofs.lemmas.List.Sums.{prefix_len_passes, prefix_len_stops}
 use Rattle.input_line.specs.Limits.{longest}
 
 -- The line of the input w has n bytes.
@@ -20,15 +22,15 @@ pub record Opened (w : List ℕ) (n : ℕ) : Type 0 where
   pub inside : n < length w
 
 -- what is answered of the first line
-unfoldable pub LineOf : List ℕ → Line → Type 0
-LineOf w (Ends n) = Opened w n
-LineOf w Unended = short (split w) ≡ none
+unfoldable pub LineOf : List ℕ → Code.Option ℕ → Type 0
+LineOf w (Some n) = Opened w n
+LineOf w None = short (split w) ≡ none
 
-pub line-opened : (w : List ℕ) (r : Line) (n : ℕ) → LineOf w r → r ≡ Ends n → Opened w n
+pub line-opened : (w : List ℕ) (r : Code.Option ℕ) (n : ℕ) → LineOf w r → r ≡ Some n → Opened w n
 unfolding LineOf
 line-opened w r n h e = rw e at h
 
-pub line-none : (w : List ℕ) (r : Line) → LineOf w r → r ≡ Unended → short (split w) ≡ none
+pub line-none : (w : List ℕ) (r : Code.Option ℕ) → LineOf w r → r ≡ None → short (split w) ≡ none
 unfolding LineOf
 line-none w r h e = rw e at h
 
@@ -81,7 +83,7 @@ short-long v none h = refl
 short-long v (some i) h = rw (lt-leb (length (v ++ i.line)) longest (omega (arith, length-append v i.line)))
 
 module _ (w : List ℕ) (i : ℕ) (g : Looking w i) where
-  pub look_none : length w ≤ i → LineOf w Unended
+  pub look_none : length w ≤ i → LineOf w None
   unfolding LineOf split after short
   look_none h =
       let z : i ≡ length w = omega (arith, g.passed) in
@@ -90,7 +92,7 @@ module _ (w : List ℕ) (i : ℕ) (g : Looking w i) where
       ap short e
 
   module _ (h : i < length w) where
-    pub look-ends : get_or w i 0 ≡ 10 → LineOf w (Ends i)
+    pub look-ends : get_or w i 0 ≡ 10 → LineOf w (Some i)
     unfolding LineOf after short
     look-ends e =
         let s : split w ≡ some (record { line = take i w; script = drop (i + 1) w }) = g.left ∙ rw (first_byte w i h, split-end (get_or w i 0) (drop (i + 1) w) e, append-nil (take i w)) in
@@ -113,11 +115,56 @@ module _ (w : List ℕ) (i : ℕ) (g : Looking w i) where
           go none = refl
           go (some j) = ap (λ x. some (record { line = x; script = j.script })) (sym (ap (λ x. x ++ j.line) t ∙ append_assoc (take i w) (get_or w i 0 ∷ []) j.line))
 
-      pub look-long : longest ≤ i → LineOf w Unended
+      pub look-long : longest ≤ i → LineOf w None
       unfolding LineOf
       look-long m = ap short more ∙ short-long (take (i + 1) w) (split (drop (i + 1) w)) (omega (arith, length-take (i + 1) w))
 
       pub look-goes : i < longest → Looking w (i + 1)
       look-goes m = record { passed = omega arith; few = omega arith; left = more }
 
-pub ruleset laws = (rules, look-starts, look_none, look-ends, look-long, look-goes)
+-- where none of the first i bytes ends a line
+looks : (w : List ℕ) (i : ℕ) → i ≤ length w → i ≤ longest → ((k : ℕ) → k < i → get_or w k 0 ≡ 10 → ⊥) → Looking w i
+looks w zero h l f = look-starts w
+looks w (suc i) h l f =
+    let g = looks w i (omega arith) (omega arith) (λ k m. f k (omega arith)) in
+    rw (← add-one) (look-goes w i g (omega arith) (f i (omega arith)) (omega arith))
+
+-- the first byte 10, looked for in as many bytes as the longest line and its end have
+pub line_found : (w : List ℕ) → LineOf w (position (λ b. nat_eq b 10) (take (longest + 1) w))
+line_found w = go (ltb q (length v)) refl
+  where
+    v : List ℕ
+    v = take (longest + 1) w
+
+    p : ℕ → Bool
+    p b = nat_eq b 10
+
+    q : ℕ
+    q = position_or_len p v
+
+    at : (k : ℕ) → k < length v → get_or v k 0 ≡ get_or w k 0
+    at k l = get_or-take (longest + 1) w k 0 (omega (arith, length-take (longest + 1) w))
+
+    before : (k : ℕ) → k < q → k < length v → get_or w k 0 ≡ 10 → ⊥
+    before k h l e = false≢true (rw (at k l ∙ e) at (prefix_len_passes (λ x. not (p x)) v k 0 h))
+
+    passes : (b : Bool) → not b ≡ false → b ≡ true
+    passes true e = refl
+    passes false e = absurd (false≢true (sym e))
+
+    none-in : length v ≤ q → (b : Bool) → leb (length w) longest ≡ b → LineOf w None
+    none-in l true e =
+        let h : length w ≤ longest = leb-true (length w) longest e in
+        look_none w (length w) (looks w (length w) (omega arith) h (λ k m. before k (omega (arith, length-take (longest + 1) w)) (omega (arith, length-take (longest + 1) w)))) (omega arith)
+    none-in l false e =
+        let h : longest < length w = leb-false (length w) longest e in
+        let n = λ (k : ℕ) (m : k ≤ longest). before k (omega (arith, length-take (longest + 1) w)) (omega (arith, length-take (longest + 1) w)) in
+        look-long w longest (looks w longest (omega arith) (omega arith) (λ k m. n k (omega arith))) h (n longest (omega arith)) (omega arith)
+
+    go : (c : Bool) → ltb q (length v) ≡ c → LineOf w (cond c (Some q) None)
+    go true e =
+        let h : q < length v = ltb-true q (length v) e in
+        let t = eqb-true (get_or v q 0) 10 (passes (p (get_or v q 0)) (prefix_len_stops (λ x. not (p x)) v 0 h)) in
+        look-ends w q (looks w q (omega (arith, length-take (longest + 1) w)) (omega (arith, length-take (longest + 1) w)) (λ k m. before k m (omega arith)))
+        (omega (arith, length-take (longest + 1) w)) (sym (at q h) ∙ t)
+    go false e = none-in (ltb-false q (length v) e) (leb (length w) longest) refl

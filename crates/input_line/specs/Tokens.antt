@@ -1,33 +1,32 @@
 -- `replay`: the line of calls. What the loop that reads it has to show: behind a digit the line may end, go on with a digit, or have one
 -- space with a digit behind it. Assumes nothing.
-use Prim.Native.Nat.{ℕ, zero, suc, ◌+◌, ◌-◌, ◌≤◌, ◌<◌}
-use Rattle.std.specs.Prelude.{◌≡◌, Bool, get_or, set, eqb, if◌then◌else◌}
+use Prim.Native.Nat.{ℕ, ◌+◌, ◌≤◌, ◌<◌}
+use Rattle.std.specs.Prelude.{Some, None, ◌≡◌, leb, ◌&&◌, Bool, get_or, set, eqb, if◌then◌else◌}
 use Rattle.std.proofs.Math.Path.{refl, ap}
 use Rattle.std.proofs.Common.{sym, ◌∙◌, add-one, rules}
 use Rattle.std.proofs.Math.Bool.{true, false}
 use mathlib.Core.List.{List, [], ◌∷◌}
 use Rattle.std.proofs.Math.Option.{Option, none, some}
 use native.Mathlib.Omega.{arith}
-use borrow.Author.Tests.{eq-eqb, ne_eqb, le-leb, lt-leb}
+use borrow.Author.Tests.{leb-true, eq-eqb, ne_eqb, le-leb}
 use Rattle.std.proofs.Math.ListN.{length, drop}
 use Rattle.std.proofs.Math.Seq.{drop-length}
 use Rattle.atlite.specs.Lexicon.{Bytes, is_digit}
 use Rattle.atlite.specs.Loops.{entry}
 use Rattle.atlite.specs.Replay.{before, between, tokens, digit_calls, token, calls}
-use Rattle.input_line.specs.declared.Entries.TheVariants.{Read, Bad}
 use Rattle.input_line.specs.Limits.{longest}
 use Rattle.input_line.specs.Lines.{first_byte}
-use Rattle.input_line.specs.Entries.{EntriesOf, Reading, read-starts, read-ends, read-fails, read_goes, read_same}
+use Rattle.input_line.specs.Entries.{DigitOf, EntriesOf, Reading, read-starts, read-ends, read-fails, read_goes, read_same}
 
 -- the calls of tokens the first of which has begun already
 unfoldable pub opened : List Bytes → Option (List ℕ)
 opened [] = some []
 opened (t ∷ ts) = digit_calls t (calls ts)
 
--- the calls that are left at the place i of the line l: it begins there, or stands behind a digit
-unfoldable pub left : ℕ → Bytes → Option (List ℕ)
-left zero l = calls (tokens l)
-left (suc i) l = opened (between (drop (suc i) l))
+-- The calls that are left in the bytes w of a line: a token has begun, behind a digit and where there is nothing, or begins.
+unfoldable pub left : Bool → Bytes → Option (List ℕ)
+left true w = opened (between w)
+left false w = calls (between w)
 
 -- ---- the first byte
 module _ (b : ℕ) (l : Bytes) where
@@ -68,119 +67,97 @@ module _ (b : ℕ) where
       go true = refl
       go false = other-before e (between l)
 
-  none-under : b < 48 → (l : Bytes) → calls (between (b ∷ l)) ≡ none
-  unfolding is_digit
-  none-under h = none_other (rw (lt-leb 48 b h))
-
-  none_over : 48 ≤ b → 57 < b → (l : Bytes) → calls (between (b ∷ l)) ≡ none
-  unfolding is_digit
-  none_over h k = none_other (rw (le-leb 48 b h, lt-leb b 57 k))
-
   more-digit : 48 ≤ b → b ≤ 57 → (l : Bytes) → calls (between (b ∷ l)) ≡ entry b (opened (between l))
   more-digit h k l = ap calls (at_other b l (omega arith)) ∙ digit-before (is_digit_lem h k) (between l)
 
-left_end : (l : Bytes) → left (length l) l ≡ some []
-unfolding left opened between calls tokens digit_calls
-left_end [] = refl
-left_end (b ∷ l) = rw (drop-length l)
-
-left_behind : (i : ℕ) (l : Bytes) → left (i + 1) l ≡ opened (between (drop (i + 1) l))
-unfolding left
-left_behind i l = rw add-one
-
--- ---- a space between two digits
--- The next digit of l has to stand at j, where i was looked at.
-pub record Skips (l : Bytes) (i j : ℕ) : Type 0 where
-  pub is : left i l ≡ calls (between (drop j l))
-  pub low : i ≤ j
-  pub high : j ≤ i + 1
-
-module _ (l : Bytes) (i : ℕ) (h : i < length l) where
-  pub skip-none : i ≡ 0 → Skips l i i
-  unfolding left tokens
-  skip-none e = record { is = rw e (go l h); low = omega arith; high = omega arith }
-    where
-      go : (l : Bytes) → i < length l → calls (tokens l) ≡ calls (between l)
-      go [] k = absurd (omega arith)
-      go (b ∷ l) k = refl
-
-  later : (i ≡ 0 → ⊥) → left i l ≡ opened (between (drop i l))
+-- one byte more
+module _ (c : Bool) (b : ℕ) (w : Bytes) where
+  -- in a token its bytes are judged as at its begin, but for a space
+  left-begins : (b ≡ 32 → ⊥) → left c (b ∷ w) ≡ left false (b ∷ w)
   unfolding left
-  later n = go i n
+  left-begins n = go c
     where
-      go : (i : ℕ) → (i ≡ 0 → ⊥) → left i l ≡ opened (between (drop i l))
-      go zero n = absurd (n refl)
-      go (suc i) n = refl
+      go : (c : Bool) → left c (b ∷ w) ≡ left false (b ∷ w)
+      go true = rw (at_other b w n) (opened-before b (between w))
+      go false = refl
 
-  module _ (n : i ≡ 0 → ⊥) where
-    pub skip-space : get_or l i 0 ≡ 32 → Skips l i (i + 1)
-    unfolding opened digit_calls
-    skip-space e = record { is = later n ∙ ap (λ x. opened (between x)) (first_byte l i h) ∙ ap opened (at-space (get_or l i 0) (drop (i + 1) l) e); low = omega arith; high = omega arith }
+  left-digit : 48 ≤ b → b ≤ 57 → left c (b ∷ w) ≡ entry b (left true w)
+  unfolding left
+  left-digit h k = left-begins (omega arith) ∙ more-digit b h k w
 
-    pub skip-other : (get_or l i 0 ≡ 32 → ⊥) → Skips l i i
-    skip-other m =
-        let b = get_or l i 0 in
-        let t = at_other b (drop (i + 1) l) m in
-        record {
-          is = later n ∙ ap (λ x. opened (between x)) (first_byte l i h) ∙ ap opened t ∙ opened-before b (between (drop (i + 1) l)) ∙ sym (ap (λ x. calls (between x)) (first_byte l i h) ∙ ap calls t);
-          low = omega arith;
-          high = omega arith;
-        }
+  left-none : (b ≡ 32 → c ≡ true → ⊥) → (48 ≤ b → b ≤ 57 → ⊥) → left c (b ∷ w) ≡ none
+  unfolding left is_digit
+  left-none n h = go c n
+    where
+      both : (x y : Bool) → leb 48 b ≡ x → leb b 57 ≡ y → (x && y) ≡ false
+      both true true e f = absurd (h (leb-true 48 b e) (leb-true b 57 f))
+      both true false e f = refl
+      both false y e f = refl
 
-pub ruleset skipping = (rules, skip-none, skip-space, skip-other)
+      digitless : is_digit b ≡ false
+      digitless = both (leb 48 b) (leb b 57) refl refl
+
+      go : (c : Bool) → (b ≡ 32 → c ≡ true → ⊥) → left c (b ∷ w) ≡ none
+      go true n = rw (at_other b w (λ e. n e refl)) (opened-before b (between w) ∙ other-before b digitless (between w))
+      go false n = none_other b digitless w
+
+left-space : (b : ℕ) (w : Bytes) → b ≡ 32 → left true (b ∷ w) ≡ left false w
+unfolding left opened digit_calls
+left-space b w e = ap opened (at-space b w e)
 
 -- ---- the loop
--- Of the line l the first i bytes have been read: n calls, which stand in front of xs.
-pub record Noting (l xs : List ℕ) (n i : ℕ) : Type 0 where
+-- Of the line l the first i bytes have been read: n calls, which stand in front of xs; c says whether the last token is complete.
+pub record Noting (l xs : List ℕ) (n : ℕ) (c : Bool) (i : ℕ) : Type 0 where
   pub passed : i ≤ length l
   pub short : length l ≤ longest
   pub few : n ≤ i
-  pub read : Reading (calls (tokens l)) (left i l) xs n
+  pub read : Reading (calls (tokens l)) (left c (drop i l)) xs n
 
-pub note-starts : (l xs : List ℕ) → length l ≤ longest → length xs ≡ longest → Noting l xs 0 0
-unfolding left
-note-starts l xs h z = record { passed = omega arith; short = h; few = omega arith; read = read-starts (calls (tokens l)) xs z }
+module _ (l xs : List ℕ) where
+  pub note-starts : length l ≤ longest → length xs ≡ longest → (c : Bool) → c ≡ eqb (length l) 0 → Noting l xs 0 c 0
+  unfolding left opened tokens between calls digit_calls
+  note-starts h z c e = record { passed = omega arith; short = h; few = omega arith; read = read_same _ _ xs 0 (read-starts (calls (tokens l)) xs z) _ (go l c e) }
+    where
+      go : (l : List ℕ) (c : Bool) → c ≡ eqb (length l) 0 → calls (tokens l) ≡ left c l
+      go [] c e = rw e
+      go (b ∷ w) c e = rw (e, ne_eqb (length (b ∷ w)) 0 (omega arith)) refl
 
-module _ (l xs : List ℕ) (n i : ℕ) (g : Noting l xs n i) where
-  pub note-ends : length l ≤ i → EntriesOf (calls (tokens l)) xs (Read n)
-  note-ends h =
-      let z : i ≡ length l = omega (arith, g.passed) in
-      read-ends (calls (tokens l)) (left i l) xs n g.read (ap (λ k. left k l) z ∙ left_end l)
+module _ (l xs : List ℕ) (n : ℕ) (c : Bool) (i : ℕ) (g : Noting l xs n c i) where
+  -- nothing is left
+  ended : length l ≤ i → drop i l ≡ []
+  ended h = let z : i ≡ length l = omega (arith, g.passed) in rw z (drop-length l)
 
-  module _ (h : i < length l) (j : ℕ) (s : Skips l i j) where
-    -- what is left at the digit
-    at-digit : Reading (calls (tokens l)) (calls (between (drop j l))) xs n
-    at-digit = read_same (calls (tokens l)) (left i l) xs n g.read (calls (between (drop j l))) s.is
+  pub note-ends : length l ≤ i → c ≡ true → EntriesOf (calls (tokens l)) xs (Some n)
+  unfolding left opened between calls digit_calls
+  note-ends h e = read-ends (calls (tokens l)) (left c (drop i l)) xs n g.read (rw (e, ended h))
 
-    fails : calls (between (drop j l)) ≡ none → EntriesOf (calls (tokens l)) xs Bad
-    fails e = read-fails (calls (tokens l)) (calls (between (drop j l))) xs n at-digit e
+  pub note-cut : length l ≤ i → c ≡ false → EntriesOf (calls (tokens l)) xs None
+  unfolding left between calls token
+  note-cut h e = read-fails (calls (tokens l)) (left c (drop i l)) xs n g.read (rw (e, ended h))
 
-    pub note-cut : length l ≤ j → EntriesOf (calls (tokens l)) xs Bad
-    unfolding between calls token
-    note-cut k =
-        let z : j ≡ length l = omega (arith, s.high) in
-        let d : drop j l ≡ [] = rw z (drop-length l) in
-        fails (ap (λ x. calls (between x)) d)
+  module _ (h : i < length l) where
+    here : left c (drop i l) ≡ left c (get_or l i 0 ∷ drop (i + 1) l)
+    here = ap (left c) (first_byte l i h)
 
-    module _ (k : j < length l) where
-      here : calls (between (drop j l)) ≡ calls (between (get_or l j 0 ∷ drop (j + 1) l))
-      here = ap (λ x. calls (between x)) (first_byte l j k)
+    pub note-other : (get_or l i 0 ≡ 32 → c ≡ true → ⊥) → DigitOf (get_or l i 0) 57 None → EntriesOf (calls (tokens l)) xs None
+    note-other a b = read-fails (calls (tokens l)) (left c (drop i l)) xs n g.read (here ∙ left-none c (get_or l i 0) (drop (i + 1) l) a b)
 
-      pub note-under : get_or l j 0 < 48 → EntriesOf (calls (tokens l)) xs Bad
-      note-under b = fails (here ∙ none-under (get_or l j 0) b (drop (j + 1) l))
+    pub note-space : get_or l i 0 ≡ 32 → c ≡ true → Noting l xs n false (i + 1)
+    note-space a e = record {
+      passed = omega arith;
+      short = g.short;
+      few = omega (arith, g.few);
+      read = read_same (calls (tokens l)) (left c (drop i l)) xs n g.read _ (here ∙ rw e (left-space (get_or l i 0) (drop (i + 1) l) a));
+    }
 
-      module _ (b : 48 ≤ get_or l j 0) where
-        pub note-over : 57 < get_or l j 0 → EntriesOf (calls (tokens l)) xs Bad
-        note-over c = fails (here ∙ none_over (get_or l j 0) b c (drop (j + 1) l))
+    pub note-goes : (d : ℕ) → DigitOf (get_or l i 0) 57 (Some d) → Noting l (set xs n d) (n + 1) true (i + 1)
+    note-goes d k = record {
+      passed = omega arith;
+      short = g.short;
+      few = omega (arith, g.few);
+      read =
+          read_goes (calls (tokens l)) (left c (drop i l)) xs n g.read (get_or l i 0) d (left true (drop (i + 1) l)) k.2
+          (here ∙ left-digit c (get_or l i 0) (drop (i + 1) l) k.0 k.1) (omega (arith, g.few, g.short));
+    }
 
-        pub note-goes : get_or l j 0 ≤ 57 → Noting l (set xs n (get_or l j 0 - 48)) (n + 1) (j + 1)
-        note-goes c = record {
-          passed = omega arith;
-          short = g.short;
-          few = omega (arith, g.few, s.low);
-          read =
-              read_goes (calls (tokens l)) (calls (between (drop j l))) xs n at-digit (get_or l j 0) (left (j + 1) l)
-              (here ∙ more-digit (get_or l j 0) b c (drop (j + 1) l) ∙ ap (entry (get_or l j 0)) (sym (left_behind j l))) (omega (arith, g.few, g.short, s.low));
-        }
-
-pub ruleset reading = (rules, note-starts, note-ends, note-cut, note-under, note-over, note-goes)
+pub ruleset reading = (rules, note-starts, note-ends, note-cut, note-other, note-space, note-goes)

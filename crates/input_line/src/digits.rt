@@ -2,26 +2,26 @@
 ghost use Rattle.std.specs.Prelude.{◌≡◌, ◌≤◌, length};
 ghost use Rattle.atlite.specs.Loops.{schedule};
 ghost use Rattle.input_line.specs.Limits.{longest};
-ghost use Rattle.input_line.specs.Entries.{EntriesOf};
+ghost use Rattle.input_line.specs.Entries.{DigitOf, EntriesOf};
 
-use crate::Entries;
+// The number of the digit `b`, if it is one up to `last`.
+pub fn digit(b: u8, last: u8) -> Option<u8>
+    ensures { DigitOf b last result }
+{
+    if b'0' <= b && b <= last {
+        Some(b - b'0')
+    } else {
+        None
+    }
+}
 
-// Puts the actor numbers of a schedule line in front of `entries`.
-pub fn read_schedule(line: &[u8], entries: &mut [u8]) -> Entries
+// Puts the actor numbers of a schedule line in front of `entries`: so many, or none where the line has no meaning.
+pub fn read_schedule(line: &[u8], entries: &mut [u8]) -> Option<usize>
     requires { (length line.now ≤ longest) × (length entries.old ≡ longest) }
     ensures { EntriesOf (schedule line.now) entries.new result }
 {
-    let mut i = 0;
-    while i < line.len() {
-        let b = line[i];
-        if b < b'0' {
-            return Entries::Bad;
-        }
-        if b'3' < b {
-            return Entries::Bad;
-        }
-        entries[i] = b - b'0';
-        i += 1;
+    for (i, b) in line.iter().enumerate() {
+        entries[i] = digit(*b, b'3')?;
     }
-    Entries::Read(i)
+    Some(line.len())
 }

@@ -4,6 +4,8 @@
 // is judged before any of the script behind it is looked at.
 #![tactic(auto)]
 
+ghost use Rattle.std.specs.Prelude.{◌≡◌, ◌==◌, ◌+◌, position, take};
+ghost use Rattle.input_line.specs.Limits.{longest};
 ghost use Rattle.input_line.specs.Lines.{LineOf};
 
 mod digits;
@@ -21,33 +23,17 @@ const SCRIPT: usize = 4096;
 // The bytes of an input that decide: one more than a line, its end and a script have.
 pub const INPUT: usize = LONGEST + 1 + SCRIPT + 1;
 
-// Where the first line ends: in front of the byte 10 at this place, or nowhere that is looked at.
-#[derive(Drop)]
-pub enum Line {
-    Ends(usize),
-    Unended,
+// The first byte 10 among those that the longest line and its end have.
+fn first_end(input: &[u8]) -> Option<usize>
+    ensures { result ≡ position (λ b. b == 10) (take (longest + 1) input.now) }
+{
+    input.iter().take(LONGEST + 1).position(|b| *b == b'\n')
 }
 
-// What a line says: so many entries, or nothing that has a meaning.
-#[derive(Drop)]
-pub enum Entries {
-    Read(usize),
-    Bad,
-}
-
-// Looks for the end of the line that `input` begins with. Nothing is read behind the longest line.
-pub fn first_line(input: &[u8]) -> Line
+// Where the first line ends: in front of the byte 10 at this place, or nowhere that is looked at. Nothing is read behind the longest line.
+#[tactic(auto, using(crate::specs::Lines::line_found))]
+pub fn first_line(input: &[u8]) -> Option<usize>
     ensures { LineOf input.now result }
 {
-    let mut i = 0;
-    while i < input.len() {
-        if input[i] == b'\n' {
-            return Line::Ends(i);
-        }
-        if LONGEST <= i {
-            return Line::Unended;
-        }
-        i += 1;
-    }
-    Line::Unended
+    first_end(input)
 }

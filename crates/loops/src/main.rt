@@ -6,7 +6,7 @@
 // written for its first 8,194 bytes (`loops-take` of crate `play`).
 #![tactic(auto)]
 
-use input::Input;
+use input::Unread;
 use std::io;
 
 // Plays an input, and writes what comes of it.
@@ -19,9 +19,8 @@ fn answer(rt: &impl Print, bytes: &[u8]) -> io::Result<()> {
 #[tactic(auto, using(input::specs::Within::counted))]
 fn main(rt: HostRuntime) -> io::Result<()> {
     let mut bytes = [0u8; play::INPUT];
-    let r = input::read_all(&mut rt.stdin(), &mut bytes);
-    match r {
-        Input::Bytes(n) => answer(&rt, &bytes[..n]),
-        Input::Unread => rt.write_all(&input::UNREAD),
+    match input::read_all(&mut rt.stdin(), &mut bytes) {
+        Ok(n) => answer(&rt, &bytes[..n]),
+        Err(Unread) => rt.write_all(&input::UNREAD),
     }
 }

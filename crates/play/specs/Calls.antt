@@ -11,7 +11,7 @@ use Rattle.atlite.specs.Lexicon.{Bytes}
 use Rattle.atlite.specs.Move.{AfterMove, move}
 use Rattle.atlite.specs.Printer.{print_number, print_items}
 use Rattle.atlite.specs.Replay.{answer_text, Replayed, after_call, call_from, called}
-use Rattle.atlite.specs.Answers.{move_answer}
+use Rattle.atlite.specs.Answers.{Returned, move_answer}
 use Rattle.atlite.specs.declared.Moved.{Moved}
 use Rattle.invariant.specs.Moves.{move-keeps}
 use Rattle.layout.specs.Layout.{encode}
@@ -29,7 +29,7 @@ pub record CallMade (w : List ℕ) (a i : ℕ) (old : List ℕ) (k : ℕ) (w' ne
   pub wrote : Wrote old k (gap i ++ told (move_call w a).result) new r
   pub few : length (gap i ++ told (move_call w a).result) ≤ answer_room
 
-pub call-made : (w : List ℕ) (a i : ℕ) (old : List ℕ) (k : ℕ) (w' new : List ℕ) (r : ℕ) (x : Moved) (mid : List ℕ) (p : ℕ)
+pub call-made : (w : List ℕ) (a i : ℕ) (old : List ℕ) (k : ℕ) (w' new : List ℕ) (r : ℕ) (x : Returned Moved) (mid : List ℕ) (p : ℕ)
     → move_answer x ≡ (move_call w a).result → w' ≡ (move_call w a).buffer → Wrote old k (gap i) mid p → Put mid p (told (move_answer x)) new r
     → CallMade w a i old k w' new r
 call-made w a i old k w' new r x mid p e d f g =

@@ -1,6 +1,6 @@
 -- The listing of a state, written behind other bytes: the listing comes first, so that nothing has been written where it is refused.
 -- Assumes nothing.
-use Rattle.std.specs.Prelude.{ℕ, ◌+◌, ◌-◌, ◌≤◌, ◌≡◌, Bool, leb}
+use Rattle.std.specs.Prelude.{Ok, Err, ℕ, ◌+◌, ◌-◌, ◌≤◌, ◌≡◌, Bool, leb}
 use Rattle.std.proofs.Math.Path.{refl, sym, ap}
 use Rattle.std.proofs.Common.{◌∙◌, subst as transp, arith, rules, leb-true, length-drop, length-take-le}
 use Rattle.std.proofs.Math.Bool.{true, false}
@@ -14,9 +14,9 @@ use Rattle.atlite.specs.Lexicon.{Bytes}
 use Rattle.atlite.specs.State.{State}
 use Rattle.atlite.specs.Listing.{listing}
 use Rattle.atlite.specs.Program.{listed, shown}
-use Rattle.atlite.specs.Answers.{list_answer}
-use Rattle.atlite.specs.declared.Listed.{Listed}
-use Rattle.atlite.specs.declared.Listed.TheVariants as S
+use Rattle.atlite.specs.Answers.{Returned, list_answer}
+use Rattle.atlite.specs.Causes.{number}
+use Rattle.atlite.specs.declared.Cause.{Cause}
 use Rattle.promises.specs.Meaning.{answered, room, lent, list_call}
 use Rattle.layout_laws.specs.Results.{done-same, refused-same, bind_done, then-done, require-done}
 use Rattle.play.specs.Starts.{of_words}
@@ -79,20 +79,20 @@ module _ (w h old : List ℕ) (k : length h + listing_room ≤ length old) where
       go (refused n) = refl
       go (done σ) = refl
 
-  module _ (a : Listed) (n : ℕ) (mid : List ℕ) (e : list_answer a ≡ (list_call w page).result) (d : mid ≡ (list_call w page).buffer) where
-    pub list-refuses : a ≡ S.Refused n → (r : ℕ) (new : List ℕ) → Written (shown (refused n)) (back mid) r new → Written (shown (of_words (headed h) w)) old r new
+  module _ (a : Returned ℕ) (mid : List ℕ) (e : list_answer a ≡ (list_call w page).result) (d : mid ≡ (list_call w page).buffer) where
+    pub list-refuses : (n : Cause) → a ≡ Err n → (r : ℕ) (new : List ℕ) → Written (shown (refused (number n))) (back mid) r new → Written (shown (of_words (headed h) w)) old r new
     unfolding list_answer answered
-    list-refuses c r new g = go (of_words listed w) refl
+    list-refuses n c r new g = go (of_words listed w) refl
       where
         go : (R : Result Bytes) → of_words listed w ≡ R → Written (shown (of_words (headed h) w)) old r new
         go (done l) i = absurd (refused-done (sym (ap list_answer c) ∙ e ∙ ap (λ X. X.result) (list-is (done l) i)))
         go (refused m) i =
-            let z : m ≡ n = refused-same m n (sym (ap (λ X. X.result) (list-is (refused m) i)) ∙ sym e ∙ ap list_answer c) in
+            let z : m ≡ number n = refused-same m (number n) (sym (ap (λ X. X.result) (list-is (refused m) i)) ∙ sym e ∙ ap list_answer c) in
             let p : mid ≡ page = d ∙ ap (λ X. X.buffer) (list-is (refused m) i) in
             let o : back mid ≡ old = ap back p ∙ ap (λ x. take (length h) old ++ x) page-rest ∙ take-append-drop (length h) old in
-            result-same (of_words (headed h) w) (refused n) old r new (headed-is (refused m) i ∙ ap refused z) (transp (λ x. Written (shown (refused n)) x r new) o g)
+            result-same (of_words (headed h) w) (refused (number n)) old r new (headed-is (refused m) i ∙ ap refused z) (transp (λ x. Written (shown (refused (number n))) x r new) o g)
 
-    module _ (c : a ≡ S.Bytes n) where
+    module _ (n : ℕ) (c : a ≡ Ok n) where
       -- the listing that was written
       wrote : (l : Bytes) × (of_words listed w ≡ done l) × (n ≡ length l) × (mid ≡ l ++ drop (length l) page)
       unfolding list_answer answered

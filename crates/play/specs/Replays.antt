@@ -1,5 +1,6 @@
 -- `replay`: what is written once each of its calls has been made. Assumes nothing.
-use Rattle.std.specs.Prelude.{ℕ, ◌+◌, ◌-◌, ◌≤◌, ◌≡◌, refl, List, [], ◌∷◌, ◌++◌, length, take, drop}
+use Rattle.std.specs.Prelude as Code
+use Rattle.std.specs.Prelude.{Some, None, ℕ, ◌+◌, ◌-◌, ◌≤◌, ◌≡◌, refl, List, [], ◌∷◌, ◌++◌, length, take, drop}
 use Rattle.std.proofs.Common.{sym, ap, ◌∙◌, append_assoc, arith, rules, length-take, length-take-le}
 use Rattle.atlite.specs.Base.{Result, done, refused, ◌>>=◌}
 use Rattle.atlite.specs.Lexicon.{Bytes}
@@ -7,10 +8,6 @@ use Rattle.atlite.specs.State.{State}
 use Rattle.atlite.specs.Printer.{print_items}
 use Rattle.atlite.specs.Program.{listed, shown}
 use Rattle.atlite.specs.Replay.{tokens, calls, called, replayed, bad_token, told, told_of, replay}
-use Rattle.input_line.specs.declared.Line.{Line}
-use Rattle.input_line.specs.declared.Line.TheVariants.{Unended}
-use Rattle.input_line.specs.declared.Entries.{Entries}
-use Rattle.input_line.specs.declared.Entries.TheVariants.{Read, Bad}
 use Rattle.input_line.specs.Lines.{Opened, LineOf, script-lent, line-opened, line-length, line-short, line-none}
 use Rattle.input_line.specs.Entries.{EntriesOf, entries-held, entries-few, entries-inside, entries-short, entries_none}
 use Rattle.play.specs.Starts.{of_text, of_words, start-holds, start-shows, start-stops}
@@ -47,16 +44,16 @@ module _ (old : List ℕ) (r : ℕ) (new : List ℕ) where
       go (refused n) = refl
 
   module _ (w : List ℕ) where
-    pub line-stops : (a : Line) → LineOf w a → a ≡ Unended → Written bad_token old r new → Written (replay w) old r new
+    pub line-stops : (a : Code.Option ℕ) → LineOf w a → a ≡ None → Written bad_token old r new → Written (replay w) old r new
     unfolding replay told_of
     line-stops a l e g = written_same (replay w) bad_token old r new (rw (line-none w a l e)) g
 
-    module _ (n : ℕ) (o : Opened w n) (xs : List ℕ) (a : Entries) (l : EntriesOf (calls (tokens (take n w))) xs a) where
-      pub token-stops : a ≡ Bad → Written bad_token old r new → Written (replay w) old r new
+    module _ (n : ℕ) (o : Opened w n) (xs : List ℕ) (a : Code.Option ℕ) (l : EntriesOf (calls (tokens (take n w))) xs a) where
+      pub token-stops : a ≡ None → Written bad_token old r new → Written (replay w) old r new
       unfolding replay told_of told
       token-stops e g = written_same (replay w) bad_token old r new (ap told_of o.is ∙ rw (entries_none (calls (tokens (take n w))) xs a l e)) g
 
-      pub token-shows : (k : ℕ) → a ≡ Read k → Written (shown (of_text (replay_from (take k xs)) (take (length w - (n + 1)) (drop (n + 1) w)))) old r new → Written (replay w) old r new
+      pub token-shows : (k : ℕ) → a ≡ Some k → Written (shown (of_text (replay_from (take k xs)) (take (length w - (n + 1)) (drop (n + 1) w)))) old r new → Written (replay w) old r new
       unfolding replay told_of told replayed of_text replay_from
       token-shows k e g =
           let q = entries-held (calls (tokens (take n w))) xs a k l e in

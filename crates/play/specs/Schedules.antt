@@ -1,5 +1,6 @@
 -- `loops`: what is written behind a schedule line, once each of its entries has been run. Assumes nothing.
-use Rattle.std.specs.Prelude.{ℕ, ◌+◌, ◌-◌, ◌≡◌, refl, List, [], ◌++◌, length, take, drop}
+use Rattle.std.specs.Prelude as Code
+use Rattle.std.specs.Prelude.{Some, None, ℕ, ◌+◌, ◌-◌, ◌≡◌, refl, List, [], ◌++◌, length, take, drop}
 use Rattle.std.proofs.Common.{sym, ap, ◌∙◌, rules, length-take-le}
 use Rattle.atlite.specs.Base.{Result, done, refused, ◌>>=◌, or_refuse}
 use Rattle.atlite.specs.Lexicon.{Bytes}
@@ -12,10 +13,6 @@ use Rattle.layout.specs.Numbers.{state_words}
 use Rattle.layout.specs.Layout.{encode}
 use Rattle.promises.specs.Meaning.{lent, run_call}
 use Rattle.layout_laws.specs.MeaningLaws.{lent-state, state-lent, run-unlent, run-leaves}
-use Rattle.input_line.specs.declared.Line.{Line}
-use Rattle.input_line.specs.declared.Line.TheVariants.{Unended}
-use Rattle.input_line.specs.declared.Entries.{Entries}
-use Rattle.input_line.specs.declared.Entries.TheVariants.{Read, Bad}
 use Rattle.input_line.specs.Lines.{Opened, LineOf, script-lent, line-opened, line-length, line-short, line-none}
 use Rattle.input_line.specs.Entries.{EntriesOf, entries-held, entries-few, entries-inside, entries_none}
 use Rattle.play.specs.Starts.{of_text, of_words, start-shows, start-stops}
@@ -50,16 +47,16 @@ module _ (old : List ℕ) (r : ℕ) (new : List ℕ) where
 
   -- ---- what is left to do of an input
   module _ (w : List ℕ) where
-    pub line-stops : (a : Line) → LineOf w a → a ≡ Unended → Written (shown (refused 2)) old r new → Written (loops w) old r new
+    pub line-stops : (a : Code.Option ℕ) → LineOf w a → a ≡ None → Written (shown (refused 2)) old r new → Written (loops w) old r new
     unfolding loops played or_refuse
     line-stops a l e g = written_same (loops w) (shown (refused 2)) old r new (rw (line-none w a l e)) g
 
-    module _ (n : ℕ) (o : Opened w n) (xs : List ℕ) (a : Entries) (l : EntriesOf (schedule (take n w)) xs a) where
-      pub schedule-stops : a ≡ Bad → Written (shown (refused 2)) old r new → Written (loops w) old r new
+    module _ (n : ℕ) (o : Opened w n) (xs : List ℕ) (a : Code.Option ℕ) (l : EntriesOf (schedule (take n w)) xs a) where
+      pub schedule-stops : a ≡ None → Written (shown (refused 2)) old r new → Written (loops w) old r new
       unfolding loops played or_refuse
       schedule-stops e g = written_same (loops w) (shown (refused 2)) old r new (rw (o.is, entries_none (schedule (take n w)) xs a l e)) g
 
-      pub schedule-shows : (k : ℕ) → a ≡ Read k → Written (shown (of_text (ran (take k xs)) (take (length w - (n + 1)) (drop (n + 1) w)))) old r new → Written (loops w) old r new
+      pub schedule-shows : (k : ℕ) → a ≡ Some k → Written (shown (of_text (ran (take k xs)) (take (length w - (n + 1)) (drop (n + 1) w)))) old r new → Written (loops w) old r new
       unfolding loops played or_refuse of_text ran
       schedule-shows k e g =
           let q = entries-held (schedule (take n w)) xs a k l e in

@@ -24,10 +24,8 @@ pub fn make_calls(state: &mut [u32], entries: &[u8], text: &mut [u8]) -> usize
     ensures { Lined state.old entries.now state.new result text.new }
 {
     let mut k = 0;
-    let mut i = 0;
-    while i < entries.len() {
-        k = make_call(state, entries[i], i, text, k);
-        i += 1;
+    for (i, actor) in entries.iter().enumerate() {
+        k = make_call(state, *actor, i, text, k);
     }
     showing::put(b'\n', text, k)
 }

@@ -10,8 +10,6 @@ ghost use Rattle.play.specs.Starts.{Holds, of_text, of_words};
 ghost use Rattle.play.specs.Replays.{replay_from};
 
 use crate::{answers, show, start};
-use atlite::Loaded;
-use input_line::{Entries, Line};
 
 // The bytes of one answer: a letter, a number that is a byte, and the space or the end of the line behind them.
 const ANSWER: usize = 5;
@@ -38,10 +36,9 @@ fn replay_script(script: &[u8], entries: &[u8], out: &mut [u8]) -> usize
     ensures { Written (shown (of_text (replay_from entries.now) script.now)) out.old result out.new }
 {
     let mut state = [0u32; start::STATE];
-    let started = start::start(script, &mut state);
-    match started {
-        Loaded::Done => replay_state(&mut state, entries, out),
-        Loaded::Refused(n) => transcript::refuse(n, out),
+    match start::start(script, &mut state) {
+        Ok(()) => replay_state(&mut state, entries, out),
+        Err(c) => transcript::refuse(c, out),
     }
 }
 
@@ -54,8 +51,8 @@ fn replay_parts(input: &[u8], n: usize, out: &mut [u8]) -> usize
     let read = input_line::read_calls(&input[..n], &mut entries);
     let script = n + 1;
     match read {
-        Entries::Read(k) => replay_script(&input[script..], &entries[..k], out),
-        Entries::Bad => transcript::bad_token(out),
+        Some(k) => replay_script(&input[script..], &entries[..k], out),
+        None => transcript::bad_token(out),
     }
 }
 
@@ -64,10 +61,9 @@ fn replay_input(input: &[u8], out: &mut [u8]) -> usize
     requires { replay_room ≤ length out.old }
     ensures { Written (replay input.now) out.old result out.new }
 {
-    let first = input_line::first_line(input);
-    match first {
-        Line::Ends(n) => replay_parts(input, n, out),
-        Line::Unended => transcript::bad_token(out),
+    match input_line::first_line(input) {
+        Some(n) => replay_parts(input, n, out),
+        None => transcript::bad_token(out),
     }
 }
 

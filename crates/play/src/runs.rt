@@ -8,18 +8,17 @@ ghost use Rattle.play.specs.Starts.{of_text, of_words};
 ghost use Rattle.play.specs.Schedules.{ran};
 
 use crate::{show, start};
-use atlite::Loaded;
-use input_line::{Entries, Line};
+use atlite::Cause;
 
 // The cause of a bad schedule line.
-const BAD_LINE: u8 = 2;
+const BAD_LINE: Cause = Cause::Grammar;
 
 // Makes the moves of the schedule, and lists what they leave.
 fn play_state(state: &mut [u32], entries: &[u8], out: &mut [u8]) -> usize
     requires { listing_room ≤ length out.old }
     ensures { Written (shown (of_words (ran entries.now) state.old)) out.old result out.new }
 {
-    engine::run(state, entries);
+    let _ = engine::run(state, entries);
     show::show_state(state, b"", out)
 }
 
@@ -29,10 +28,9 @@ fn play_script(script: &[u8], entries: &[u8], out: &mut [u8]) -> usize
     ensures { Written (shown (of_text (ran entries.now) script.now)) out.old result out.new }
 {
     let mut state = [0u32; start::STATE];
-    let started = start::start(script, &mut state);
-    match started {
-        Loaded::Done => play_state(&mut state, entries, out),
-        Loaded::Refused(n) => transcript::refuse(n, out),
+    match start::start(script, &mut state) {
+        Ok(()) => play_state(&mut state, entries, out),
+        Err(c) => transcript::refuse(c, out),
     }
 }
 
@@ -45,8 +43,8 @@ fn play_parts(input: &[u8], n: usize, out: &mut [u8]) -> usize
     let read = input_line::read_schedule(&input[..n], &mut entries);
     let script = n + 1;
     match read {
-        Entries::Read(k) => play_script(&input[script..], &entries[..k], out),
-        Entries::Bad => transcript::refuse(BAD_LINE, out),
+        Some(k) => play_script(&input[script..], &entries[..k], out),
+        None => transcript::refuse(BAD_LINE, out),
     }
 }
 
@@ -55,10 +53,9 @@ fn play_input(input: &[u8], out: &mut [u8]) -> usize
     requires { listing_room ≤ length out.old }
     ensures { Written (loops input.now) out.old result out.new }
 {
-    let first = input_line::first_line(input);
-    match first {
-        Line::Ends(n) => play_parts(input, n, out),
-        Line::Unended => transcript::refuse(BAD_LINE, out),
+    match input_line::first_line(input) {
+        Some(n) => play_parts(input, n, out),
+        None => transcript::refuse(BAD_LINE, out),
     }
 }
 

@@ -6,8 +6,6 @@ ghost use Rattle.play.specs.Limits.{answers_room};
 ghost use Rattle.play.specs.Starts.{of_words};
 ghost use Rattle.play.specs.Listings.{headed};
 
-use atlite::Listed;
-
 // Lists a state behind the bytes `head`, or says what refuses that. The listing is written first: where it is refused nothing stands in `out`
 // that was not there.
 pub fn show_state(state: &[u32], head: &[u8], out: &mut [u8]) -> usize
@@ -16,9 +14,8 @@ pub fn show_state(state: &[u32], head: &[u8], out: &mut [u8]) -> usize
 {
     let k = head.len();
     let e = k + transcript::LISTING;
-    let listed = engine::list(state, &mut out[k..e]);
-    match listed {
-        Listed::Bytes(n) => transcript::put_head(head, n, out),
-        Listed::Refused(n) => transcript::refuse(n, out),
+    match engine::list(state, &mut out[k..e]) {
+        Ok(n) => transcript::put_head(head, n, out),
+        Err(c) => transcript::refuse(c, out),
     }
 }

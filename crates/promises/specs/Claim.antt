@@ -9,6 +9,7 @@ use Rattle.atlite.specs.State.{State}
 use Rattle.atlite.specs.Move as Moves
 use Rattle.atlite.specs.Move.{Answer, Inner, Taken, Sent, Created, AfterMove}
 use Rattle.atlite.specs.Run as Runs
+use Rattle.atlite.specs.Answers.{Returned}
 use Rattle.atlite.specs.declared.Moved.{Moved}
 use Rattle.atlite.specs.declared.Ran.{Ran}
 use Rattle.layout.specs.Numbers.{state_words}
@@ -114,8 +115,8 @@ TwoLists =
 -- words that the one before it left, and met its contract.
 pub data Made : List ℕ → List Call → List ℕ → Type 0 where
   none : (w : List ℕ) → Made w [] w
-  moved : (w new w' : List ℕ) (a : ℕ) (r : Moved) (cs : List Call) → MovesCall w a r new → Made new cs w' → Made w (move a ∷ cs) w'
-  ran : (w new w' : List ℕ) (es : List ℕ) (r : Ran) (cs : List Call) → RunsCall w es r new → Made new cs w' → Made w (run es ∷ cs) w'
+  moved : (w new w' : List ℕ) (a : ℕ) (r : Returned Moved) (cs : List Call) → MovesCall w a r new → Made new cs w' → Made w (move a ∷ cs) w'
+  ran : (w new w' : List ℕ) (es : List ℕ) (r : Returned Ran) (cs : List Call) → RunsCall w es r new → Made new cs w' → Made w (run es ∷ cs) w'
 
 unfoldable pub Claim : Unit {0}
 unfolding entries leaves left_by events_of trace traced_from moved_by moves_of senders creators written

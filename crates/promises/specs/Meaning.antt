@@ -16,10 +16,9 @@ use Rattle.atlite.specs.Listing.{listing}
 use Rattle.atlite.specs.Keywords.{operators}
 use Rattle.atlite.specs.Table.{text_of, Table, read}
 use Rattle.atlite.specs.Load.{load}
-use Rattle.atlite.specs.Answers.{move_answer, run_answer, list_answer}
+use Rattle.atlite.specs.Answers.{Returned, move_answer, run_answer, list_answer}
 use Rattle.atlite.specs.declared.Moved.{Moved}
 use Rattle.atlite.specs.declared.Ran.{Ran}
-use Rattle.atlite.specs.declared.Listed.{Listed}
 use Rattle.layout.specs.Numbers.{state_words, table_words}
 use Rattle.layout.specs.Layout.{encode}
 use Rattle.decoding.specs.Decode.{state_of}
@@ -98,13 +97,13 @@ list_call state text = answered text (do
 -- ---- calls that were made
 -- What was answered and what the written list holds are what the call says of the lists that it was lent. So the contracts of the code's calls
 -- say it of a move, a run and a listing; whatever code meets them is meant where two lists of calls are compared (`Claim`).
-unfoldable pub MovesCall : List ℕ → ℕ → Moved → List ℕ → Type 0
+unfoldable pub MovesCall : List ℕ → ℕ → Returned Moved → List ℕ → Type 0
 MovesCall old a r new = (move_answer r ≡ (move_call old a).result) × (new ≡ (move_call old a).buffer)
 
-unfoldable pub RunsCall : List ℕ → List ℕ → Ran → List ℕ → Type 0
+unfoldable pub RunsCall : List ℕ → List ℕ → Returned Ran → List ℕ → Type 0
 RunsCall old entries r new = (run_answer r ≡ (run_call old entries).result) × (new ≡ (run_call old entries).buffer)
 
-unfoldable pub ListsCall : List ℕ → List ℕ → Listed → List ℕ → Type 0
+unfoldable pub ListsCall : List ℕ → List ℕ → Returned ℕ → List ℕ → Type 0
 ListsCall state old r new = (list_answer r ≡ (list_call state old).result) × (new ≡ (list_call state old).buffer)
 
 unfoldable pub Meaning : Unit {0}

@@ -5,8 +5,7 @@
 use Rattle.std.specs.Prelude.{ℕ, ◌≡◌, refl, List, [], ◌∷◌, length, take}
 use Rattle.std.proofs.Math.Path.{sym, ap₂}
 use Rattle.std.proofs.Common.{ap, ◌∙◌, subst as transp}
-use Rattle.atlite.specs.Answers.{list_answer}
-use Rattle.atlite.specs.declared.Listed.{Listed}
+use Rattle.atlite.specs.Answers.{Returned, list_answer}
 use Rattle.layout.specs.Numbers.{state_words}
 use Rattle.promises.specs.Meaning.{MovesCall, RunsCall, ListsCall}
 use Rattle.promises.specs.Claim.{Call, leaves, left_by, moved_by, Agree, written, SameEnd, Made, none, moved, ran}
@@ -24,7 +23,7 @@ module _ (w v w' v' : List ℕ) (cs ds : List Call) (one : Made w cs w') (two : 
   same_end = transp (λ x. SameEnd w v x v') (sym (left w w' cs one)) (transp (λ y. SameEnd w v (left_by w cs) y) (sym (left v v' ds two)) (two-lists w v same cs ds agree))
 
   -- and of the call `list`, made on both in the end with text buffers of one length
-  module _ (s t s' t' : List ℕ) (q r : Listed) (equal : length s ≡ length t) (lists : ListsCall w' s q s') (lists_too : ListsCall v' t r t') where
+  module _ (s t s' t' : List ℕ) (q r : Returned ℕ) (equal : length s ≡ length t) (lists : ListsCall w' s q s') (lists_too : ListsCall v' t r t') where
     pub same_answer : list_answer q ≡ list_answer r
     unfolding ListsCall
     same_answer = lists.0 ∙ same_end.answers s t equal ∙ sym lists_too.0

@@ -1,8 +1,8 @@
 -- What the parser's answer means for the reader: a script whose lines stand in the scratch words, or cause 2. Assumes nothing.
-use Rattle.std.specs.Prelude.{ℕ, ◌≤◌, ◌≡◌, Bool, List, length, Some, None}
+use Rattle.std.specs.Prelude.{ℕ, ◌≤◌, ◌≡◌, Bool, Some, None, Err, List, length}
 use Rattle.std.proofs.Common.{arith, rules}
 use Rattle.atlite.specs.Lexicon.{dictionary}
-use Rattle.atlite.specs.declared.Tabled.TheVariants.{Refused}
+use Rattle.atlite.specs.declared.Cause.TheVariants as C
 use Rattle.layout.specs.Numbers.{table_words}
 use Rattle.scan.specs.WordNumbers.{Holds, Dictionary}
 use Rattle.parse.specs.declared.Parsed.{Parsed}
@@ -36,7 +36,7 @@ module _ (t old : List ℕ) where
         rows = omega (arith, q.counted, q.used, q.room, rows-within q.script);
       }
 
-  pub unparsed : (s : List ℕ) → Sized t old → Parses t s None → Reads t old (Refused 2) old
+  pub unparsed : (s : List ℕ) → Sized t old → Parses t s None → Reads t old (Err C.Grammar) old
   unfolding Parses
   unparsed s z p = no-script t old z.room z.some z.short p
 

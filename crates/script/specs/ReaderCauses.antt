@@ -1,8 +1,7 @@
 -- The reader after the grammar: what is known of a text when its causes 3, 4 and 5 are looked for, and what each finding then means.
 -- Assumes nothing.
-use Rattle.std.specs.Prelude.{ℕ, ◌+◌, ◌≤◌, ◌<◌, ◌≡◌, Bool, true, false, List, [], ◌∷◌, length, if◌then◌else◌}
+use Rattle.std.specs.Prelude.{ℕ, ◌+◌, ◌≤◌, ◌<◌, ◌≡◌, Bool, true, false, Ok, Err, List, [], ◌∷◌, length, if◌then◌else◌}
 use Rattle.std.proofs.Common.{sym, ap, ◌∙◌, arith, rules, length-append}
-use Rattle.std.proofs.lemmas.Bool.{false≢true}
 use Rattle.atlite.specs.Base.{done}
 use Rattle.atlite.specs.Lexicon.{dictionary}
 use Rattle.atlite.specs.Script.{Src, Line, expression, define, size, join}
@@ -10,7 +9,7 @@ use Rattle.atlite.specs.Scope.{bound, single}
 use Rattle.atlite.specs.Keywords.{operators}
 use Rattle.atlite.specs.Reader.{depth, read_script}
 use Rattle.atlite.specs.Table.{GrammaticalLines}
-use Rattle.atlite.specs.declared.Tabled.TheVariants.{Done, Refused}
+use Rattle.atlite.specs.declared.Cause.TheVariants as C
 use Rattle.reading.specs.Exact.{script-exact}
 use Rattle.layout.specs.Numbers.{lines_size, table_words}
 use Rattle.layout.specs.Pack.{flat}
@@ -72,29 +71,29 @@ module _ (t old s low high : List ℕ) (words lines count : ℕ) (apply : Bool) 
     unfolding Size
     size_is n a = a g.ls g.e g.stands g.joined
 
-  pub not-bound : Grammar t old s low high words lines count apply → (b : Bool) → AllBound s words lines b → b ≡ false → Reads t old (Refused 3) old
+  pub not-bound : Grammar t old s low high words lines count apply → (b : Bool) → AllBound s words lines b → b ≡ false → Reads t old (Err C.Unbound) old
   not-bound g b a f = unbound t old g.room g.some g.short g.ls g.e g.script g.joined (sym (bound-is g b a) ∙ f)
 
   pub is_bound : Grammar t old s low high words lines count apply → (b : Bool) → AllBound s words lines b → b ≡ true → Scoped t old s low high words lines count apply
   is_bound g b a f = record { grammar = g; scoped = sym (bound-is g b a) ∙ f }
 
-  pub not-single : Scoped t old s low high words lines count apply → (b : Bool) → Single s words lines b → b ≡ false → Reads t old (Refused 4) old
+  pub not-single : Scoped t old s low high words lines count apply → (b : Bool) → Single s words lines b → b ≡ false → Reads t old (Err C.Repeated) old
   not-single h b a f = let g = h.grammar in twice t old g.room g.some g.short g.ls g.e g.script g.joined h.scoped (sym (single-is g b a) ∙ f)
 
   pub is-single : Scoped t old s low high words lines count apply → (b : Bool) → Single s words lines b → b ≡ true → Sound t old s low high words lines count apply
   is-single h b a f = record { grammar = h.grammar; scoped = h.scoped; lists = sym (single-is h.grammar b a) ∙ f }
 
-  pub deep : Sound t old s low high words lines count apply → (n : ℕ) → n ≡ depth t → 32 < n → Reads t old (Refused 5) old
+  pub deep : Sound t old s low high words lines count apply → (n : ℕ) → n ≡ depth t → 32 < n → Reads t old (Err C.Oversized) old
   deep h n e l =
       let g = h.grammar in
       too-deep t old g.room g.some g.short g.ls g.e g.script g.joined h.scoped h.lists (omega arith)
 
-  pub many : Sound t old s low high words lines count apply → (n : ℕ) → n ≡ count + (if apply then 1 else 0) → 64 < n → Reads t old (Refused 5) old
+  pub many : Sound t old s low high words lines count apply → (n : ℕ) → n ≡ count + (if apply then 1 else 0) → 64 < n → Reads t old (Err C.Oversized) old
   many h n e l =
       let g = h.grammar in
       too-many-words t old g.room g.some g.short g.ls g.e g.script g.joined h.scoped h.lists (omega (arith, g.dict.total))
 
-  pub large : Sound t old s low high words lines count apply → (n : ℕ) → Size s words lines n → 512 < n → Reads t old (Refused 5) old
+  pub large : Sound t old s low high words lines count apply → (n : ℕ) → Size s words lines n → 512 < n → Reads t old (Err C.Oversized) old
   large h n a l =
       let g = h.grammar in
       let z = size_is g n a in
@@ -132,7 +131,7 @@ module _ (t old s low high : List ℕ) (words lines count : ℕ) (apply : Bool) 
             high_is = λ i j. d.highs i (omega (arith, d.counted));
           }
 
-      pub table_done : (new : List ℕ) (m : ℕ) → m ≡ depth t → m ≤ 32 → Written s words lines low high count old new → Reads t old Done new
+      pub table_done : (new : List ℕ) (m : ℕ) → m ≡ depth t → m ≤ 32 → Written s words lines low high count old new → Reads t old (Ok tt) new
       unfolding Written
       table_done new m e p w =
           let g = h.grammar in
@@ -170,13 +169,4 @@ pub record Sized (t old : List ℕ) : Type 0 where
   pub some : length t ≡ 0 → ⊥
   pub short : length t ≤ 4096
 
--- the words of a text, by whether `apply` is one more
-pub one_more : (b : Bool) (n r : ℕ) → b ≡ true → r ≡ n + 1 → r ≡ n + (if b then 1 else 0)
-one_more true n r e h = h
-one_more false n r e h = absurd (false≢true e)
-
-pub no_more : (b : Bool) (n : ℕ) → b ≡ false → n ≡ n + (if b then 1 else 0)
-no_more true n e = absurd (false≢true (sym e))
-no_more false n e = omega arith
-
-pub ruleset laws = (rules, one_more, no_more, not-bound, is_bound, not-single, is-single, deep, many, large, few-names, few_words_lem, table_done)
+pub ruleset laws = (rules, not-bound, is_bound, not-single, is-single, deep, many, large, few-names, few_words_lem, table_done)

@@ -10,3 +10,6 @@ mod reader;
 
 pub use printing::{is_table, print};
 pub use reader::read;
+
+// The bytes that a text may have.
+const TEXT: usize = 4096;

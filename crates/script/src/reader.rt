@@ -1,17 +1,17 @@
 // Reading a text into its table.
-ghost use Rattle.std.specs.Prelude.{◌≡◌, ◌+◌, ◌≤◌, ◌<◌, if◌then◌else◌};
+ghost use Rattle.std.specs.Prelude.{◌≡◌, ◌+◌, if◌then◌else◌};
 ghost use Rattle.atlite.specs.Answers.{read_answer};
 ghost use Rattle.promises.specs.Meaning.{read_call};
 ghost use Rattle.script.specs.ReadContract.{Reads};
 ghost use Rattle.script.specs.ReaderCauses.{Sized, Grammar, Scoped, Sound};
 
-use atlite::Tabled;
+use crate::TEXT;
+use atlite::Cause;
 use layout::TABLE;
 use parse::{Parsed, Source};
 use scan::Vocabulary;
 
 // How many different words the text has.
-#[tactic(auto, using(crate::specs::ReaderCauses::laws))]
 fn different(known: &Vocabulary) -> usize
     ensures { result ≡ known.now.count + (if known.now.apply then 1 else 0) }
 {
@@ -19,21 +19,24 @@ fn different(known: &Vocabulary) -> usize
 }
 
 // Causes 5: brackets, words, nodes. The table is written where none of them is found.
-#[tactic(auto, using(crate::specs::ReaderCauses::laws))]
-fn limits(text: &[u8], s: &[u64; 4096], p: Parsed, known: &Vocabulary, table: &mut [u32]) -> Tabled
+fn limits(
+    text: &[u8],
+    s: &[u64; 4096],
+    p: Parsed,
+    known: &Vocabulary,
+    table: &mut [u32],
+) -> Result<(), Cause>
     requires { Sound text.now table.old s.now known.now.low known.now.high p.words p.lines known.now.count known.now.apply }
     ensures { Reads text.now table.old result table.new }
 {
-    let deepest = checks::depth::depth(text);
-    if 32 < deepest {
-        return Tabled::Refused(5);
+    if 32 < checks::depth::depth(text) {
+        return Err(Cause::Oversized);
     }
     if 64 < different(known) {
-        return Tabled::Refused(5);
+        return Err(Cause::Oversized);
     }
-    let nodes = checks::size::size(s, p.words, p.lines);
-    if 512 < nodes {
-        return Tabled::Refused(5);
+    if 512 < checks::size::size(s, p.words, p.lines) {
+        return Err(Cause::Oversized);
     }
     checks::table::write_table(
         s,
@@ -44,37 +47,47 @@ fn limits(text: &[u8], s: &[u64; 4096], p: Parsed, known: &Vocabulary, table: &m
         known.count,
         table,
     );
-    Tabled::Done
+    Ok(())
 }
 
 // Cause 4, and what comes after it.
-#[tactic(auto, using(crate::specs::ReaderCauses::laws))]
-fn lists(text: &[u8], s: &[u64; 4096], p: Parsed, known: &Vocabulary, table: &mut [u32]) -> Tabled
+fn lists(
+    text: &[u8],
+    s: &[u64; 4096],
+    p: Parsed,
+    known: &Vocabulary,
+    table: &mut [u32],
+) -> Result<(), Cause>
     requires { Scoped text.now table.old s.now known.now.low known.now.high p.words p.lines known.now.count known.now.apply }
     ensures { Reads text.now table.old result table.new }
 {
-    if checks::single::single(s, p.words, p.lines) {
-        return limits(text, s, p, known, table);
+    if !checks::single::single(s, p.words, p.lines) {
+        return Err(Cause::Repeated);
     }
-    Tabled::Refused(4)
+    limits(text, s, p, known, table)
 }
 
 // Cause 3, and what comes after it.
-#[tactic(auto, using(crate::specs::ReaderCauses::laws))]
-fn scopes(text: &[u8], s: &[u64; 4096], p: Parsed, known: &Vocabulary, table: &mut [u32]) -> Tabled
+fn scopes(
+    text: &[u8],
+    s: &[u64; 4096],
+    p: Parsed,
+    known: &Vocabulary,
+    table: &mut [u32],
+) -> Result<(), Cause>
     requires { Grammar text.now table.old s.now known.now.low known.now.high p.words p.lines known.now.count known.now.apply }
     ensures { Reads text.now table.old result table.new }
 {
     let mut last = [0u16; 4096];
-    if checks::bound::bound(s, p.words, p.lines, &mut last) {
-        return lists(text, s, p, known, table);
+    if !checks::bound::bound(s, p.words, p.lines, &mut last) {
+        return Err(Cause::Unbound);
     }
-    Tabled::Refused(3)
+    lists(text, s, p, known, table)
 }
 
 // The grammar, and what comes after it.
 #[tactic(auto, using(crate::specs::ParserAnswer::laws))]
-fn grammar(text: &[u8], table: &mut [u32]) -> Tabled
+fn grammar(text: &[u8], table: &mut [u32]) -> Result<(), Cause>
     requires { Sized text.now table.old }
     ensures { Reads text.now table.old result table.new }
 {
@@ -86,24 +99,24 @@ fn grammar(text: &[u8], table: &mut [u32]) -> Tabled
         words: &known,
     };
     let Some(p) = parse::parse(&source, &mut s) else {
-        return Tabled::Refused(2);
+        return Err(Cause::Grammar);
     };
     scopes(text, &s, p, &known, table)
 }
 
 // Lengths, and what comes after them.
 #[tactic(auto, using(crate::specs::ParserAnswer::laws))]
-pub fn read_text(text: &[u8], table: &mut [u32]) -> Tabled
+pub fn read_text(text: &[u8], table: &mut [u32]) -> Result<(), Cause>
     ensures { Reads text.now table.old result table.new }
 {
     if table.len() < TABLE {
-        return Tabled::Refused(6);
+        return Err(Cause::ShortBuffer);
     }
     if text.is_empty() {
-        return Tabled::Refused(1);
+        return Err(Cause::TextLength);
     }
-    if 4096 < text.len() {
-        return Tabled::Refused(1);
+    if TEXT < text.len() {
+        return Err(Cause::TextLength);
     }
     grammar(text, table)
 }
@@ -113,7 +126,8 @@ pub fn read_text(text: &[u8], table: &mut [u32]) -> Tabled
 // The answer and every word of `table` afterwards are `read_call`'s, for any bytes: 6 where the table's buffer is short, then the causes 1
 // to 5, the lowest that applies anywhere in the text, and the table is left alone then. So it is ruled out that a refused text has
 // written a word, and that a fault that stands early in the text hides one with a lower number behind it.
-pub fn read(text: &[u8], table: &mut [u32]) -> Tabled
+#[tactic(auto, unfolding(crate::specs::ReadContract::Reads))]
+pub fn read(text: &[u8], table: &mut [u32]) -> Result<(), Cause>
     ensures { (read_answer result ≡ (read_call text.now table.old).result) × (table.new ≡ (read_call text.now table.old).buffer) }
 {
     read_text(text, table)

@@ -1,6 +1,6 @@
 -- What the call `list` promises, and what each of its ways to return has to show. Whether words are a state is asked as the definitions
 -- of the calls ask it: whether `state_in` gives one. Assumes nothing.
-use Rattle.std.specs.Prelude.{ℕ, ◌≤◌, ◌<◌, ◌≡◌, refl, Bool, true, false, List, ◌++◌, length, take}
+use Rattle.std.specs.Prelude.{ℕ, ◌≤◌, ◌<◌, ◌≡◌, refl, Bool, true, false, Ok, Err, List, ◌++◌, length, take}
 use Rattle.std.proofs.Common.{sym, ◌∙◌, arith, rules, take_all}
 use Rattle.std.proofs.Math.Path.{ap}
 use Rattle.std.proofs.lemmas.Bool.{false≢true}
@@ -11,8 +11,7 @@ use Rattle.atlite.specs.State.{State}
 use Rattle.atlite.specs.Valid.{IsState}
 use Rattle.atlite.specs.Listing.{listing}
 use Rattle.atlite.specs.Answers.{list_answer}
-use Rattle.atlite.specs.declared.Listed.{Listed}
-use Rattle.atlite.specs.declared.Listed.TheVariants.{Bytes, Refused}
+use Rattle.atlite.specs.declared.Cause.TheVariants as C
 use Rattle.layout.specs.Numbers.{state_words}
 use Rattle.layout.specs.Layout.{encode}
 use Rattle.decoding.specs.Decode.{state_of}
@@ -45,11 +44,11 @@ pub is-told : (w : List ℕ) (r : Bool) → r ≡ is_done (state_in w) → r ≡
 is-told w r e d = sym e ∙ d
 
 module _ (w old : List ℕ) where
-  pub no_room : length w < state_words → ListsCall w old (Refused 6) old
+  pub no_room : length w < state_words → ListsCall w old (Err C.ShortBuffer) old
   unfolding ListsCall list_answer list_call answered lent
   no_room h = rw (room-short state_words w h) (refl, refl)
 
-  pub no-state : state_words ≤ length w → (r : Bool) → r ≡ is_done (state_in w) → r ≡ false → ListsCall w old (Refused 7) old
+  pub no-state : state_words ≤ length w → (r : Bool) → r ≡ is_done (state_in w) → r ≡ false → ListsCall w old (Err C.Malformed) old
   unfolding ListsCall list_answer list_call answered lent state_in
   no-state h r e d = rw (room-enough state_words w h, refused-told (state_of (take state_words w)) (sym e ∙ d)) (refl, refl)
 
@@ -72,11 +71,11 @@ module _ (w old : List ℕ) where
     unfolding Measures
     counted n l = l here.0 encoded.0 (sym encoded.1)
 
-    pub text-short : (n : ℕ) → Measures w n → length old < n → ListsCall w old (Refused 6) old
+    pub text-short : (n : ℕ) → Measures w n → length old < n → ListsCall w old (Err C.ShortBuffer) old
     unfolding ListsCall list_answer list_call answered
     text-short n l k = let c = counted n l in rw (lent-here, room-short (length listed) old (omega arith)) (refl, refl)
 
-    pub text-written : (m : ℕ) → Measures w m → m ≤ length old → (new : List ℕ) (n : ℕ) → Lists w old new n → ListsCall w old (Bytes n) new
+    pub text-written : (m : ℕ) → Measures w m → m ≤ length old → (new : List ℕ) (n : ℕ) → Lists w old new n → ListsCall w old (Ok n) new
     unfolding ListsCall list_answer list_call answered
     text-written m l k new n g =
         let c = counted m l in

@@ -13,7 +13,7 @@ ghost use Rattle.actor.specs.PartContract.{Decides};
 ghost use Rattle.state.specs.Conditions.{HeadHolds, PartsHold, AreState};
 ghost use Rattle.state.specs.ListCall.{Measures};
 
-use atlite::Listed;
+use atlite::Cause;
 use layout::{HEAD, PART, STATE, STATE_SLOTS};
 
 fn wide(n: u32) -> usize
@@ -103,6 +103,7 @@ pub fn is_state(words: &[u32]) -> bool
 }
 
 // The length of a state's listing, which is listed into no text.
+#[tactic(auto, using(crate::specs::ListCall::laws))]
 fn measure(state: &[u32]) -> usize
     requires { state_words ≤ length state.now }
     ensures { Measures state.now result }
@@ -112,28 +113,30 @@ fn measure(state: &[u32]) -> usize
 }
 
 // Lists a state. Its length is asked first, since a refusal writes nothing.
-fn list_state(state: &[u32], text: &mut [u8]) -> Listed
+#[tactic(auto, using(crate::specs::ListCall::laws))]
+fn list_state(state: &[u32], text: &mut [u8]) -> Result<usize, Cause>
     requires { (state_words ≤ length state.now) × (is_done (state_in state.now) ≡ true) }
     ensures { ListsCall state.now text.old result text.new }
 {
     if text.len() < measure(state) {
-        return Listed::Refused(6);
+        return Err(Cause::ShortBuffer);
     }
     let n = lister::list_words(state, text);
-    Listed::Bytes(n)
+    Ok(n)
 }
 
 // The causes in their order, then the listing.
-fn list_text(state: &[u32], text: &mut [u8]) -> Listed
+#[tactic(auto, using(crate::specs::ListCall::laws))]
+fn list_text(state: &[u32], text: &mut [u8]) -> Result<usize, Cause>
     ensures { ListsCall state.now text.old result text.new }
 {
     if state.len() < STATE {
-        return Listed::Refused(6);
+        return Err(Cause::ShortBuffer);
     }
-    if is_state(state) {
-        return list_state(state, text);
+    if !is_state(state) {
+        return Err(Cause::Malformed);
     }
-    Listed::Refused(7)
+    list_state(state, text)
 }
 
 // Writes the listing of the state in the first 16,384 words of `state` in front of `text`.
@@ -141,7 +144,8 @@ fn list_text(state: &[u32], text: &mut [u8]) -> Listed
 // The answer and every byte of `text` afterwards are `list_call`'s, for any words: 6 where they are too few, 7 where they are no state,
 // 6 where the listing does not fit; else its length. So it is ruled out that a refusal has written a byte, and that a byte behind the
 // listing is changed.
-pub fn list(state: &[u32], text: &mut [u8]) -> Listed
+#[tactic(auto, unfolding(promises::specs::Meaning::ListsCall))]
+pub fn list(state: &[u32], text: &mut [u8]) -> Result<usize, Cause>
     ensures { (list_answer result ≡ (list_call state.now text.old).result) × (text.new ≡ (list_call state.now text.old).buffer) }
 {
     list_text(state, text)

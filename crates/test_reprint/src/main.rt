@@ -1,48 +1,29 @@
 // Reads a script from standard input and prints it again from its table, or says which cause refuses it, or that it was not read.
 #![tactic(auto)]
 
-ghost use Rattle.std.specs.Prelude.{◌≤◌, length};
-
-use atlite::{Printed, Tabled};
-use input::Input;
+use atlite::Cause;
+use input::Unread;
 use std::io;
 
-// The line of a refusal. No cause of these two calls has two digits.
-fn refuse(rt: &impl Print, n: u8) -> io::Result<()> {
-    let digit = n % 10;
-    println!(rt; "(refused {digit})")
-}
-
-// How many of the first `n` bytes `text` has.
-fn within(n: usize, text: &[u8]) -> usize
-    ensures { result ≤ length text.now }
-{
-    if text.len() < n {
-        return text.len();
-    }
-    n
-}
-
-// The text of a table.
-fn print_table(rt: &impl Print, table: &[u32]) -> io::Result<()> {
-    let mut text = [0u8; 4096];
-    let p = script::print(table, &mut text);
-    match p {
-        Printed::Bytes(n) => {
-            let k = within(n, &text);
-            rt.write_all(&text[..k])
-        }
-        Printed::Refused(n) => refuse(rt, n),
-    }
-}
-
-// Prints a script again, or the line of the cause that refuses it.
-fn reprint(rt: &impl Print, text: &[u8]) -> io::Result<()> {
+// Prints a script again into `out`: how many bytes, or the cause that refuses it.
+fn reprint(text: &[u8], out: &mut [u8]) -> Result<usize, Cause> {
     let mut table = [0u32; 1280];
-    let t = script::read(text, &mut table);
-    match t {
-        Tabled::Done => print_table(rt, &table),
-        Tabled::Refused(n) => refuse(rt, n),
+    script::read(text, &mut table)?;
+    script::print(&table, out)
+}
+
+// Writes the script again, or the line of the cause that refuses it.
+fn answer(rt: &impl Print, text: &[u8]) -> io::Result<()> {
+    let mut out = [0u8; 4096];
+    match reprint(text, &mut out) {
+        Ok(n) => {
+            let k = n.min(out.len());
+            rt.write_all(&out[..k])
+        }
+        Err(c) => {
+            let n = c.number();
+            println!(rt; "(refused {n})")
+        }
     }
 }
 
@@ -50,9 +31,8 @@ fn reprint(rt: &impl Print, text: &[u8]) -> io::Result<()> {
 #[tactic(auto, using(input::specs::Within::counted))]
 fn main(rt: HostRuntime) -> io::Result<()> {
     let mut text = [0u8; 4097];
-    let r = input::read_all(&mut rt.stdin(), &mut text);
-    match r {
-        Input::Bytes(n) => reprint(&rt, &text[..n]),
-        Input::Unread => rt.write_all(&input::UNREAD),
+    match input::read_all(&mut rt.stdin(), &mut text) {
+        Ok(n) => answer(&rt, &text[..n]),
+        Err(Unread) => rt.write_all(&input::UNREAD),
     }
 }

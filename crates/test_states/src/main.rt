@@ -6,8 +6,7 @@
 
 ghost use Rattle.std.specs.Prelude.{◌+◌, ◌≤◌, ◌≡◌, length};
 
-use atlite::Listed;
-use input::{Input, digits};
+use input::{Unread, digits};
 use std::io;
 
 // The bytes of a record.
@@ -19,37 +18,22 @@ fn set_word(entry: &[u8], words: &mut [u32])
 {
     let i = digits::five(entry, 2);
     let v = digits::five(entry, 8) * 100000 + digits::five(entry, 13);
-    if words.len() <= i {
-        return;
+    if let (Some(word), Ok(v)) = (words.get_mut(i), u32::try_from(v)) {
+        *word = v;
     }
-    if 4294967295 < v {
-        return;
-    }
-    words[i] = v as u32;
 }
 
-// How many of the first `n` bytes `text` has.
-fn within(n: usize, text: &[u8]) -> usize
-    ensures { result ≤ length text.now }
-{
-    if text.len() < n {
-        return text.len();
-    }
-    n
-}
-
-// Lists the words, or says what refuses them. No cause of a listing has two digits.
+// Lists the words, or says what refuses them.
 fn show(rt: &impl Print, words: &[u32]) -> io::Result<()> {
     let mut text = [0u8; 65536];
-    let l = state::list(words, &mut text);
-    match l {
-        Listed::Bytes(n) => {
-            let k = within(n, &text);
+    match state::list(words, &mut text) {
+        Ok(n) => {
+            let k = n.min(text.len());
             rt.write_all(&text[..k])
         }
-        Listed::Refused(n) => {
-            let digit = n % 10;
-            println!(rt; "(refused {digit})")
+        Err(c) => {
+            let n = c.number();
+            println!(rt; "(refused {n})")
         }
     }
 }
@@ -81,9 +65,8 @@ fn go_through(rt: &impl Print, records: &[u8], words: &mut [u32]) -> io::Result<
 fn main(rt: HostRuntime) -> io::Result<()> {
     let mut data = [0u8; 65536];
     let mut words = [0u32; 16384];
-    let r = input::read_file(&rt, b"states", &mut data);
-    match r {
-        Input::Bytes(n) => go_through(&rt, &data[..n], &mut words),
-        Input::Unread => rt.write_all(&input::UNREAD),
+    match input::read_file(&rt, b"states", &mut data) {
+        Ok(n) => go_through(&rt, &data[..n], &mut words),
+        Err(Unread) => rt.write_all(&input::UNREAD),
     }
 }

@@ -5,8 +5,7 @@
 
 ghost use Rattle.std.specs.Prelude.{◌≡◌, ◌+◌, ◌≤◌, length};
 
-use atlite::{Printed, Tabled};
-use input::{Input, digits};
+use input::{Unread, digits};
 use std::io;
 
 // The bytes of a record before its text.
@@ -27,36 +26,21 @@ fn text_length(head: &[u8]) -> usize
     digits::two(head, 0) * 100 + digits::two(head, 2)
 }
 
-// Whether `out` begins with `text`.
-fn starts(out: &[u8], text: &[u8]) -> bool {
-    if out.len() < text.len() {
-        return false;
-    }
-    check::same(&out[..text.len()], text)
-}
-
 // Whether the table prints as `text`.
 fn prints(table: &[u32], text: &[u8]) -> bool {
     let mut out = [0u8; 4096];
-    let p = script::print(table, &mut out);
-    match p {
-        Printed::Bytes(n) => {
-            if n != text.len() {
-                return false;
-            }
-            starts(&out, text)
-        }
-        Printed::Refused(_) => false,
+    match script::print(table, &mut out) {
+        Ok(n) => n == text.len() && out.starts_with(text),
+        Err(_) => false,
     }
 }
 
 // Whether `text` is refused with `cause`, or is accepted and printed again where that is 0.
 fn agrees(text: &[u8], cause: usize) -> bool {
     let mut table = [0u32; 1280];
-    let t = script::read(text, &mut table);
-    match t {
-        Tabled::Done => cause == 0 && prints(&table, text),
-        Tabled::Refused(n) => n as usize == cause,
+    match script::read(text, &mut table) {
+        Ok(()) => cause == 0 && prints(&table, text),
+        Err(c) => usize::from(c.number()) == cause,
     }
 }
 
@@ -65,15 +49,9 @@ fn counted(t: Tally, text: &[u8], cause: usize) -> Tally
     requires { (t.all ≤ 65536) × (t.agreed ≤ t.all) }
     ensures { (result.all ≡ t.all + 1) × (result.agreed ≤ result.all) }
 {
-    if agrees(text, cause) {
-        return Tally {
-            all: t.all + 1,
-            agreed: t.agreed + 1,
-        };
-    }
     Tally {
         all: t.all + 1,
-        agreed: t.agreed,
+        agreed: t.agreed + u64::from(agrees(text, cause)),
     }
 }
 
@@ -107,9 +85,8 @@ fn report(rt: &impl Print, records: &[u8]) -> io::Result<()>
 #[tactic(auto, using(input::specs::Within::counted))]
 fn main(rt: HostRuntime) -> io::Result<()> {
     let mut data = [0u8; 65536];
-    let r = input::read_file(&rt, b"texts", &mut data);
-    match r {
-        Input::Bytes(n) => report(&rt, &data[..n]),
-        Input::Unread => rt.write_all(&input::UNREAD),
+    match input::read_file(&rt, b"texts", &mut data) {
+        Ok(n) => report(&rt, &data[..n]),
+        Err(Unread) => rt.write_all(&input::UNREAD),
     }
 }

@@ -1,6 +1,6 @@
 -- The texts of the answers that calls give, and the space between two. Assumes nothing.
 use Prim.Native.Nat.{ℕ, zero, suc, ◌≤◌}
-use Rattle.std.specs.Prelude.{◌≡◌, refl, List, [], ◌∷◌, length}
+use Rattle.std.specs.Prelude.{◌≡◌, Ok, Err, refl, List, [], ◌∷◌, length}
 use Rattle.std.proofs.Common.{subst as transp, rules}
 use native.Mathlib.Omega.{arith}
 use Rattle.atlite.specs.Base.{Result, done, refused, bytes}
@@ -8,12 +8,14 @@ use Rattle.atlite.specs.Lexicon.{Bytes}
 use Rattle.atlite.specs.Move.{Answer}
 use Rattle.atlite.specs.Printer.{print_number}
 use Rattle.atlite.specs.Replay.{answer_text}
-use Rattle.atlite.specs.Answers.{move_answer}
+use Rattle.atlite.specs.Answers.{Returned, move_answer}
 use Rattle.atlite.specs.declared.ActorNo.{ActorNo}
 use Rattle.atlite.specs.declared.Moved.{Moved}
+use Rattle.atlite.specs.Causes.{number}
+use Rattle.atlite.specs.declared.Cause.{Cause}
 use Rattle.atlite.specs.declared.Moved.TheVariants as M
 use Rattle.showing.specs.Writer.{most, Wrote, wrote_none, wrote-two}
-use Rattle.transcript.specs.Digits.{byte-digits}
+use Rattle.transcript.specs.Digits.{byte-digits, cause-few}
 
 -- what stands before the answer to a call that i others were made before
 unfoldable pub gap : ℕ → Bytes
@@ -45,33 +47,34 @@ module _ (old : List ℕ) (k : ℕ) (new : List ℕ) (r : ℕ) where
   gap-wrote (suc i) n g = g
 
   -- m is the byte n
-  module _ (m n : ℕ) (e : m ≡ n) (h : m ≤ 255) where
+  module _ (m n : ℕ) (e : m ≡ n) (h : n ≤ 255) where
     pub named_put : (b : ℕ) (mid : List ℕ) (p : ℕ) → Wrote old k (b ∷ []) mid p → Wrote mid p (print_number m) new r → Put old k (b ∷ print_number n) new r
     named_put b mid p f g =
-        transp (λ x. Put old k (b ∷ print_number x) new r) e (record { wrote = wrote-two old k (b ∷ []) (print_number m) mid new p r f g; few = omega (arith, byte-digits m h) })
+        transp (λ x. Put old k (b ∷ print_number x) new r) e
+        (record { wrote = wrote-two old k (b ∷ []) (print_number m) mid new p r f g; few = omega (arith, byte-digits m (omega arith)) })
 
-    pub cause-put : Wrote old k (print_number m) new r → Put old k (print_number n) new r
-    cause-put g = transp (λ x. Put old k (print_number x) new r) e (record { wrote = g; few = omega (arith, byte-digits m h) })
+    pub number-put : Wrote old k (print_number m) new r → Put old k (print_number n) new r
+    number-put g = transp (λ x. Put old k (print_number x) new r) e (record { wrote = g; few = omega (arith, byte-digits m (omega arith)) })
 
-  module _ (a : Moved) where
-    pub inner-put : a ≡ M.Inner → Wrote old k (73 ∷ []) new r → Put old k (told (move_answer a)) new r
+  module _ (a : Returned Moved) (x : Moved) (e : a ≡ Ok x) where
+    pub inner-put : x ≡ M.Inner → Wrote old k (73 ∷ []) new r → Put old k (told (move_answer a)) new r
     unfolding told move_answer answer_text bytes
-    inner-put e g = rw e (record { wrote = g; few = omega arith })
+    inner-put f g = rw (e, f) (record { wrote = g; few = omega arith })
 
-    pub taken-put : a ≡ M.Taken → Wrote old k (84 ∷ []) new r → Put old k (told (move_answer a)) new r
+    pub taken-put : x ≡ M.Taken → Wrote old k (84 ∷ []) new r → Put old k (told (move_answer a)) new r
     unfolding told move_answer answer_text bytes
-    taken-put e g = rw e (record { wrote = g; few = omega arith })
+    taken-put f g = rw (e, f) (record { wrote = g; few = omega arith })
 
-    pub sent-put : (b : ActorNo) → a ≡ M.Sent b → Put old k (83 ∷ print_number b.0) new r → Put old k (told (move_answer a)) new r
+    pub sent-put : (b : ActorNo) → x ≡ M.Sent b → Put old k (83 ∷ print_number b.0) new r → Put old k (told (move_answer a)) new r
     unfolding told move_answer answer_text bytes
-    sent-put b e g = rw e g
+    sent-put b f g = rw (e, f) g
 
-    pub created-put : (b : ActorNo) → a ≡ M.Created b → Put old k (67 ∷ print_number b.0) new r → Put old k (told (move_answer a)) new r
+    pub created-put : (b : ActorNo) → x ≡ M.Created b → Put old k (67 ∷ print_number b.0) new r → Put old k (told (move_answer a)) new r
     unfolding told move_answer answer_text bytes
-    created-put b e g = rw e g
+    created-put b f g = rw (e, f) g
 
-    pub refused-put : (n : ℕ) → a ≡ M.Refused n → Put old k (print_number n) new r → Put old k (told (move_answer a)) new r
-    unfolding told move_answer
-    refused-put n e g = rw e g
+  pub refused-put : (a : Returned Moved) (c : Cause) → a ≡ Err c → (m : ℕ) → m ≡ number c → Wrote old k (print_number m) new r → Put old k (told (move_answer a)) new r
+  unfolding told move_answer
+  refused-put a c e m f g = rw e (number-put m (number c) f (omega (arith, cause-few c)) g)
 
-pub ruleset laws = (rules, gap-none, gap-wrote, named_put, cause-put, inner-put, taken-put, sent-put, created-put, refused-put)
+pub ruleset laws = (rules, gap-none, gap-wrote, named_put, inner-put, taken-put, sent-put, created-put, refused-put)

@@ -9,7 +9,9 @@ use Rattle.atlite.specs.Printer.{print_number}
 use Rattle.atlite.specs.Program.{shown}
 use Rattle.atlite.specs.Replay.{bad_token}
 use Rattle.showing.specs.Writer.{most, Wrote, wrote-two}
-use Rattle.transcript.specs.Digits.{byte-digits}
+use Rattle.atlite.specs.Causes.{number}
+use Rattle.atlite.specs.declared.Cause.{Cause}
+use Rattle.transcript.specs.Digits.{byte-digits, cause-few}
 
 -- the bytes that a listing may have
 abbrev pub listing_room : ℕ
@@ -35,14 +37,15 @@ front-written s old new r h l g =
     let n : r ≡ length s = g.next (omega arith) ∙ z in
     record { count = n; fits = omega arith; text = g.is (omega arith) ∙ sets-eq s old 0 (omega arith) ∙ ap (λ k. s ++ drop k old) z }
 
-pub refusal-written : (old : List ℕ) → listing_room ≤ length old → (c n : ℕ) → n ≡ c → n ≤ 255 → (m₁ m₂ new : List ℕ) (a b r : ℕ)
+pub refusal-written : (old : List ℕ) → listing_room ≤ length old → (c : Cause) (n : ℕ) → n ≡ number c → (m₁ m₂ new : List ℕ) (a b r : ℕ)
     → Wrote old 0 (40 ∷ 114 ∷ 101 ∷ 102 ∷ 117 ∷ 115 ∷ 101 ∷ 100 ∷ 32 ∷ []) m₁ a → Wrote m₁ a (print_number n) m₂ b → Wrote m₂ b (41 ∷ 10 ∷ []) new r
-    → Written (shown (refused c)) old r new
+    → Written (shown (refused (number c))) old r new
 unfolding shown bytes
-refusal-written old h c n z d m₁ m₂ new a b r p q s =
+refusal-written old h c n z m₁ m₂ new a b r p q s =
     let x = bytes "(refused " in
     let y = bytes ")\n" in
     let t = (x ++ print_number n) ++ y in
+    let d : n ≤ 255 = omega (arith, cause-few c) in
     let l : length t ≤ listing_room = omega (arith, length-append (x ++ print_number n) y, length-append x (print_number n), byte-digits n d) in
     let w = front-written t old new r (omega arith) (omega arith) (wrote-two old 0 (x ++ print_number n) y m₂ new b r (wrote-two old 0 x (print_number n) m₁ m₂ a b p q) s) in
     transp (λ k. Written (shown (refused k)) old r new) z w

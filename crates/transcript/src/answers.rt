@@ -5,8 +5,7 @@ ghost use Rattle.atlite.specs.Printer.{print_number};
 ghost use Rattle.showing.specs.Writer.{most, Wrote};
 ghost use Rattle.transcript.specs.AnswerTexts.{gap, told, Put};
 
-use crate::wide;
-use atlite::Moved;
+use atlite::{Cause, Moved};
 
 // Between two answers stands a space: `i` were written before.
 pub fn put_space(i: usize, text: &mut [u8], k: usize) -> usize
@@ -24,29 +23,20 @@ fn put_named(letter: u8, actor: u8, text: &mut [u8], k: usize) -> usize
     requires { k ≤ most }
     ensures { Put text.old k (letter ∷ print_number actor) text.new result }
 {
-    let n = wide(actor);
     let p = showing::put(letter, text, k);
-    showing::put_number(n, text, p)
+    showing::put_number(u32::from(actor), text, p)
 }
 
-// The cause of a call that was refused.
-fn put_cause(cause: u8, text: &mut [u8], k: usize) -> usize
-    requires { k ≤ most }
-    ensures { Put text.old k (print_number cause) text.new result }
-{
-    let n = wide(cause);
-    showing::put_number(n, text, k)
-}
-
-pub fn put_answer(answer: Moved, text: &mut [u8], k: usize) -> usize
+// What a call came to: a letter, with the actor that it names, or the number of the cause that refused it.
+pub fn put_answer(answer: Result<Moved, Cause>, text: &mut [u8], k: usize) -> usize
     requires { k ≤ most }
     ensures { Put text.old k (told (move_answer answer)) text.new result }
 {
     match answer {
-        Moved::Inner => showing::put(b'I', text, k),
-        Moved::Taken => showing::put(b'T', text, k),
-        Moved::Sent(actor) => put_named(b'S', actor.0, text, k),
-        Moved::Created(actor) => put_named(b'C', actor.0, text, k),
-        Moved::Refused(cause) => put_cause(cause, text, k),
+        Ok(Moved::Inner) => showing::put(b'I', text, k),
+        Ok(Moved::Taken) => showing::put(b'T', text, k),
+        Ok(Moved::Sent(actor)) => put_named(b'S', actor.0, text, k),
+        Ok(Moved::Created(actor)) => put_named(b'C', actor.0, text, k),
+        Err(cause) => showing::put_number(u32::from(cause.number()), text, k),
     }
 }

@@ -5,6 +5,7 @@
 
 ghost use Rattle.std.specs.Prelude.{◌+◌, ◌≤◌, ◌≡◌, length};
 ghost use Rattle.atlite.specs.Base.{refused};
+ghost use Rattle.atlite.specs.Causes.{number};
 ghost use Rattle.atlite.specs.Program.{shown};
 ghost use Rattle.atlite.specs.Replay.{bad_token};
 ghost use Rattle.showing.specs.Writer.{most};
@@ -13,22 +14,17 @@ ghost use Rattle.transcript.specs.Output.{listing_room, Written, Fronted};
 mod answers;
 
 pub use answers::{put_answer, put_space};
+use atlite::Cause;
 
 // The bytes that a listing may have.
 pub const LISTING: usize = 65536;
 
-fn wide(n: u8) -> u32
-    ensures { (result ≡ n) × (result ≤ 255) }
-{
-    n as u32
-}
-
 // Writes the line of a refusal.
-pub fn refuse(cause: u8, out: &mut [u8]) -> usize
+pub fn refuse(cause: Cause, out: &mut [u8]) -> usize
     requires { listing_room ≤ length out.old }
-    ensures { Written (shown (refused cause)) out.old result out.new }
+    ensures { Written (shown (refused (number cause))) out.old result out.new }
 {
-    let n = wide(cause);
+    let n = u32::from(cause.number());
     let a = showing::put_bytes(b"(refused ", out, 0);
     let b = showing::put_number(n, out, a);
     showing::put_bytes(b")\n", out, b)

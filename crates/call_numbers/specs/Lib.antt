@@ -1,0 +1,2 @@
+-- the number of an answer of any kind
+pub mod Status
