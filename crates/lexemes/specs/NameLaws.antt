@@ -1,6 +1,7 @@
 -- A word has the number that the dictionary gives it. Assumes nothing.
-use Rattle.std.specs.Prelude.{◌≡◌, refl, Bool, true, false, List, [], ◌∷◌, ℕ, suc, ◌+◌, ◌≤◌, ◌<◌, eqb, length, drop, if◌then◌else◌, Option, Some, None}
-use Rattle.std.proofs.Common.{sym, ap, ◌∙◌, rules}
+use Rattle.std.specs.Prelude.{◌≡◌, refl, Bool, true, false, List, [], ◌∷◌, ℕ, suc, ◌+◌, ◌-◌, ◌≤◌, ◌<◌, eqb, length, take, drop, if◌then◌else◌, Option, Some, None}
+use Rattle.std.proofs.Common.{sym, ap, ◌∙◌, rules, Fits}
+use Rattle.std.specs.Int.{w64}
 use Rattle.std.proofs.Math.Option.{none, some}
 use native.Mathlib.Omega.{arith}
 use Rattle.std.proofs.Math.Seq.{slice, length-slice}
@@ -9,7 +10,7 @@ use Rattle.atlite.specs.Lexicon.{Bytes, is_word, place, number_of, dictionary}
 use Rattle.atlite.specs.Reader.{eat, after, read_word, spaced, spaced_word}
 use Rattle.atlite_laws.specs.Facts.{same_true, same-false-sym}
 use Rattle.scan.specs.Runs.{Run, Starts, index}
-use Rattle.scan.specs.Keywords.{index-le}
+use Rattle.scan.specs.Keywords.{index-le, slice-take}
 use Rattle.scan.specs.WordNumbers.{low_part, high_part, Holds, Placed}
 use Rattle.scan.specs.DictionaryLaws.{word-nonempty, word-is, not-apply, word_room}
 use Rattle.words.specs.Wide.{wide_limit}
@@ -59,18 +60,21 @@ module _ (t : Bytes) (at e : ℕ) (h : Run t at e) where
       let w = same_true (bytes "apply") (slice at e t) (sym u ∙ v) in
       record { is = read-run (dictionary t) ∙ rw (sym p ∙ q, ← w); far = far (sym p ∙ q); within = h.within; small = omega arith }
 
-  module _ (low high : List ℕ) (count : ℕ) (s : Holds (dictionary t) low high count) (few : count ≤ 2048) (k : is_word (slice at e t) ≡ true)
-      (n : same_bytes (bytes "apply") (slice at e t) ≡ false) (l m i : ℕ) (lo : l ≡ low_part (slice at e t))
-      (hi : m ≡ high_part (slice at e t)) (p : Placed low high count l m i) where
-    at-index : i ≡ index (dictionary t) (slice at e t)
-    unfolding Placed
-    at-index = p (dictionary t) (slice at e t) s k lo hi
+  -- the word as the code cuts it out
+  abbrev cut : Bytes
+  cut = take (e - at) (drop at t)
 
-    pub place_found : i < count → NameOf t at (worded (i + 8) e)
-    unfolding NameOf Named number_of require or_refuse
-    place_found c =
+  pub cut-word : is_word (slice at e t) ≡ true → is_word cut ≡ true
+  cut-word k = rw (← slice-take at e t) k
+
+  module _ (low high : List ℕ) (count : ℕ) (s : Holds (dictionary t) low high count) (few : count ≤ 2048) (k : is_word (slice at e t) ≡ true)
+      (n : same_bytes (bytes "apply") (slice at e t) ≡ false) where
+    pub place_found : (i : ℕ) → Placed low high count (low_part cut) (high_part cut) (Some i) → NameOf t at (worded (i + 8) e)
+    unfolding NameOf Named number_of require or_refuse Placed
+    place_found i p =
         let d = s.counted in
-        let x = at-index in
+        let c = p.0 in
+        let x : i ≡ index (dictionary t) (slice at e t) = rw (slice-take at e t) (p.1 (dictionary t) cut s (cut-word k) refl refl) in
         record {
           is = read-run (dictionary t) ∙ rw (k, same-false-sym (bytes "apply") (slice at e t) n, place-some (dictionary t) (slice at e t) 8 (omega arith), ← x);
           far = far k;
@@ -78,13 +82,17 @@ module _ (t : Bytes) (at e : ℕ) (h : Run t at e) where
           small = omega arith;
         }
 
-    pub place-missing : count ≤ i → NameOf t at None
-    unfolding NameOf Named number_of require or_refuse
-    place-missing c =
+    pub place-missing : Placed low high count (low_part cut) (high_part cut) None → NameOf t at None
+    unfolding NameOf Named number_of require or_refuse Placed
+    place-missing p =
         let d = s.counted in
-        let x = at-index in
+        let x : count ≡ index (dictionary t) (slice at e t) = rw (slice-take at e t) (p (dictionary t) cut s (cut-word k) refl refl) in
         let y = index-le (slice at e t) (dictionary t) in
         read-run (dictionary t) ∙ rw (k, same-false-sym (bytes "apply") (slice at e t) n, place_none (dictionary t) (slice at e t) 8 (omega arith))
+
+pub place-fits : (low high : List ℕ) (count l h i : ℕ) → Placed low high count l h (Some i) → count ≤ 2048 → Fits w64 (i + 8)
+unfolding Placed
+place-fits low high count l h i p k = let c = p.0 in record { fits = omega arith }
 
 -- ---- behind a space
 pub eat-starts : (t : Bytes) (at b : ℕ) (r : Bool) → Starts t at (b ∷ []) r → r ≡ true → eat b (drop at t) ≡ done (drop (at + 1) t)
@@ -179,4 +187,4 @@ module _ (t : Bytes) (at : ℕ) where
   unfolding SpacedName Named
   spaced-within x s = s.within
 
-pub ruleset laws = (rules, word-is, not-apply, word_room, word_none, word-apply, place_found, place-missing, starts-room, spaced-some, spaced-none)
+pub ruleset laws = (rules, word-is, not-apply, word_room, word_none, word-apply, cut-word, place-fits, place_found, place-missing, starts-room, spaced-some, spaced-none)

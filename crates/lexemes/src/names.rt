@@ -37,15 +37,8 @@ impl Source<'_> {
         requires { Run self.now.text.now at end × (is_word (slice at end self.now.text.now) ≡ true) × (same_bytes (bytes "apply") (slice at end self.now.text.now) ≡ false) }
         ensures { NameOf self.now.text.now at result }
     {
-        let l = scan::low_part(self.text, at, end);
-        let h = scan::high_part(self.text, at, end);
-        let low = self.low;
-        let high = self.high;
-        let i = scan::find(low, high, self.count, l, h);
-        if i < self.count {
-            return Some(Name { number: i + 8, end });
-        }
-        None
+        let i = self.words.find(&self.text[at..end])?;
+        Some(Name { number: i + 8, end })
     }
 
     // The word at `at`.

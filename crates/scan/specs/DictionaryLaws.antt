@@ -1,6 +1,6 @@
 -- The dictionary is found run by run: a run is noted as the definition notes it, and what is left of the text has the other
 -- words. Assumes nothing.
-use Rattle.std.specs.Prelude.{◌≡◌, Bool, ◌&&◌, ◌||◌, not, ℕ, suc, ◌+◌, ◌-◌, ◌≤◌, ◌<◌, ltb, leb, length, get_or, drop, set, if◌then◌else◌}
+use Rattle.std.specs.Prelude.{◌≡◌, Bool, ◌&&◌, ◌||◌, not, ℕ, suc, ◌+◌, ◌-◌, ◌≤◌, ◌<◌, ltb, leb, length, get_or, drop, set, if◌then◌else◌, take, Option, Some, None, is_some}
 use Rattle.std.proofs.Math.Path.{refl, sym, ap, subst as transp}
 use Rattle.std.proofs.Common.{◌∙◌, arith, rules, ltb-true, ltb-false, leb-true, length-set, length-append, drop_of_length-le, get_or-set_same, get_or-set_other, drop-drop}
 use Rattle.std.proofs.Math.Bool.{true, false}
@@ -16,7 +16,7 @@ use Rattle.atlite_laws.specs.Facts.{and₂, both₂, or-false, same_true, same_r
 use Rattle.reading.specs.Items.{Ends}
 use Rattle.reading.specs.Dictionary.{words-run}
 use Rattle.scan.specs.Runs.{Run, index}
-use Rattle.scan.specs.Keywords.{among_none, among-some, index-le, run-all, slice-drop}
+use Rattle.scan.specs.Keywords.{among_none, among-some, index-le, run-all, slice-drop, slice-take}
 use Rattle.scan.specs.WordNumbers.{low_part, high_part, Holds, Placed, Found, Noted, Scanning, Dictionary}
 
 -- ---- the definition's steps
@@ -156,17 +156,16 @@ word_room t at e h k =
     let q = leb-true (length (slice at e t)) 12 (and₂ (letter_first (slice at e t) && all in_word (slice at e t)) (leb (length (slice at e t)) 12) p.0).1 in
     omega (arith, length-slice at e t h.within)
 
-module _ (w : Bytes) (low high : List ℕ) (n : ℕ) (a : Bool) (l h i : ℕ) (u : is_word w ≡ true) (v : same_bytes (bytes "apply") w ≡ false)
-    (p : Placed low high n l h i) (lo : l ≡ low_part w) (hi : h ≡ high_part w) where
-  at-index : (ws : List Bytes) → Found ws low high n a → i ≡ index (without_apply ws) w
+module _ (w : Bytes) (low high : List ℕ) (n : ℕ) (a : Bool) (l h : ℕ) (u : is_word w ≡ true) (v : same_bytes (bytes "apply") w ≡ false)
+    (lo : l ≡ low_part w) (hi : h ≡ high_part w) where
+  pub note-known : (o : Option ℕ) (r : Bool) → Placed low high n l h o → is_some o ≡ not r → r ≡ false → Noted w low high n a low high n a
   unfolding Placed
-  at-index ws f = p (without_apply ws) w f.held u lo hi
-
-  pub note-known : i < n → Noted w low high n a low high n a
-  note-known k = record {
+  note-known None r p e z = absurd (false≢true (e ∙ ap not z))
+  note-known (Some i) r p e z = record {
     kept = λ ws f.
         let m = f.held.counted in
-        let x = at-index ws f in
+        let k = p.0 in
+        let x = p.1 (without_apply ws) w f.held u lo hi in
         let y : among ws w ≡ true = sym (among-without w (same-false-sym (bytes "apply") w v) ws) ∙ among-some w (without_apply ws) (omega arith) in
         same w low high n a ws (noted-known ws w (rw (u, y))) f;
     more = omega arith;
@@ -175,11 +174,14 @@ module _ (w : Bytes) (low high : List ℕ) (n : ℕ) (a : Bool) (l h i : ℕ) (u
     highs = refl;
   }
 
-  pub note-new : n ≤ i → n < length low → n < length high → Noted w low high n a (set low n l) (set high n h) (n + 1) a
-  note-new k b c = record {
+  pub note-new : (o : Option ℕ) (r : Bool) → Placed low high n l h o → is_some o ≡ not r → r ≡ true → n < length low → n < length high
+      → Noted w low high n a (set low n l) (set high n h) (n + 1) a
+  unfolding Placed
+  note-new (Some i) r p e z b c = absurd (false≢true (sym (e ∙ ap not z)))
+  note-new None r p e z b c = record {
     kept = λ ws f.
         let m = f.held.counted in
-        let x = at-index ws f in
+        let x = p (without_apply ws) w f.held u lo hi in
         let d = index-le w (without_apply ws) in
         let z = same-false-sym (bytes "apply") w v in
         let y : among ws w ≡ false = sym (among-without w z ws) ∙ among_none w (without_apply ws) (omega arith) in
@@ -192,6 +194,19 @@ module _ (w : Bytes) (low high : List ℕ) (n : ℕ) (a : Bool) (l h i : ℕ) (u
     lows = length-set low n l;
     highs = length-set high n h;
   }
+
+-- a run as the code cuts it out
+module _ (t : Bytes) (at e : ℕ) where
+  pub cut-word : (r : Bool) → r ≡ is_word (slice at e t) → r ≡ true → is_word (take (e - at) (drop at t)) ≡ true
+  cut-word r h k = rw (← slice-take at e t) (sym h ∙ k)
+
+  pub cut-other : (r : Bool) → r ≡ same_bytes (97 ∷ 112 ∷ 112 ∷ 108 ∷ 121 ∷ []) (slice at e t) → r ≡ false → same_bytes (bytes "apply") (take (e - at) (drop at t)) ≡ false
+  unfolding bytes
+  cut-other r h k = rw (← slice-take at e t) (sym h ∙ k)
+
+  pub cut-noted : (low high : List ℕ) (n : ℕ) (a : Bool) (low' high' : List ℕ) (n' : ℕ) (a' : Bool) → Noted (take (e - at) (drop at t)) low high n a low' high' n' a'
+      → Noted (slice at e t) low high n a low' high' n' a'
+  cut-noted low high n a low' high' n' a' k = rw (slice-take at e t) k
 
 -- ---- the text
 -- behind a run the next byte, if there is one, ends it
@@ -259,4 +274,4 @@ module _ (t : Bytes) (low high : List ℕ) where
         within = omega arith;
       }
 
-pub ruleset laws = (rules, note-none, note-apply, word-is, not-apply, word_room, note-known, note-new, scanning-none, scanned, scanning-more)
+pub ruleset laws = (rules, note-none, note-apply, word-is, not-apply, word_room, note-known, note-new, cut-word, cut-other, cut-noted, scanning-none, scanned, scanning-more)

@@ -1,57 +1,57 @@
 -- The numbers of words: computed from the last byte to the first, split at 2^64, and different for different words.
 -- Assumes nothing.
-use Rattle.std.specs.Prelude.{◌≡◌, refl, Bool, true, false, ◌&&◌, ◌||◌, List, [], ◌∷◌, ◌++◌, eqb, leb, take, drop}
+use Rattle.std.specs.Prelude.{◌≡◌, refl, Bool, true, false, ◌&&◌, ◌||◌, List, [], ◌∷◌, ◌++◌, eqb, leb, not, take, drop, Some, None}
 use Rattle.std.proofs.Math.Path.{sym, ap}
-use Rattle.std.proofs.Common.{ap₂, ◌∙◌, add-zero, mul_assoc, add-one, rules, drop_of_length-le, take-take, drop-cons, Fits}
+use Rattle.std.proofs.Common.{ap₂, ◌∙◌, add-zero, mul_assoc, add-one, rules, drop_of_length-le, drop-cons, length-take-le, length-drop, length-take, take_all, take-append-drop, Fits}
 use Rattle.std.proofs.Math.Bool.{false≢true}
 use Prim.Native.Nat.{ℕ, zero, suc, ◌+◌, ◌-◌, ◌*◌, ◌^◌, ◌≤◌, ◌<◌}
-use Rattle.std.proofs.Math.Nat.{pow-suc, pow-le-pow_right, pow-zero, sub_self, lt_of_lt_of_le, pow-succ'}
+use Rattle.std.proofs.Math.Nat.{pow-suc, pow-le-pow_right, pow-zero, sub-zero, sub_self, lt_of_lt_of_le, pow-succ'}
 use native.Mathlib.Omega.{arith}
 use borrow.Author.Tests.{leb-true, eq-eqb, ne_eqb, eqb-true}
 use Rattle.std.proofs.Math.ListN.{length, get_or}
-use Rattle.std.proofs.Math.Seq.{slice, slice-cons, slice_empty, length-slice}
 use Rattle.std.specs.Int.{w64, w32}
 use Rattle.atlite.specs.Base.{same_bytes, all}
-use Rattle.atlite.specs.Lexicon.{Bytes, is_letter, is_digit, in_word, is_word}
+use Rattle.atlite.specs.Lexicon.{Bytes, is_letter, is_digit, in_word, is_word, letter_first, among}
+use Rattle.atlite.specs.Keywords.{reserved}
 use Rattle.atlite_laws.specs.Facts.{and₂, both₂, same_refl}
 use Rattle.layout.specs.Layout.{bytes_number}
 use Rattle.reading.specs.Items.{word-parts}
-use Rattle.scan.specs.Runs.{Run, index}
-use Rattle.scan.specs.Keywords.{slice-drop, same_not, run-all}
+use Rattle.scan.specs.Runs.{index}
+use Rattle.scan.specs.Keywords.{same_not}
 use Rattle.scan.specs.WordNumbers.{low_part, high_part, Numbered, Placed, Sought}
 
-module _ (t : Bytes) (at e : ℕ) where
-  pub numbered-none : at ≤ e → Numbered t at e e 0
+module _ (w : Bytes) where
+  pub numbered-none : Numbered w (length w) 0
   unfolding bytes_number
-  numbered-none h = record { from = h; within = omega arith; is = rw (slice_empty e t); fits = rw (sub_self e) (omega arith) }
+  numbered-none = record { is = rw (drop_of_length-le w {i = length w} (omega arith)); fits = rw (sub_self (length w)) (omega arith) }
 
-  module _ (i n : ℕ) (h : (at ≤ e) × (e ≤ length t) × (e - at ≤ 8)) (p : Numbered t at e i n) where
-    seven : at < i → n < 72057594037927936
-    seven k = let l = p.from in let m = h.2 in lt_of_lt_of_le p.fits (pow-le-pow_right {n = 256} (omega arith) {j = 7} (omega arith))
+  module _ (i n : ℕ) (h : length w ≤ 8) (z : 0 < i) (k : i ≤ length w) (p : Numbered w i n) where
+    seven : n < 72057594037927936
+    seven = lt_of_lt_of_le p.fits (pow-le-pow_right {n = 256} (omega arith) {j = 7} (omega arith))
 
-    pub mul-fits : at < i → Fits w64 (n * 256)
-    mul-fits k = let l = seven k in record { fits = omega arith }
+    pub mul-fits : Fits w64 (n * 256)
+    mul-fits = let l = seven in record { fits = omega arith }
 
-    pub add-fits : (b : ℕ) → at < i → b < 256 → Fits w64 (n * 256 + b)
-    add-fits b k q = let l = seven k in record { fits = omega arith }
+    pub add-fits : (b : ℕ) → b < 256 → Fits w64 (n * 256 + b)
+    add-fits b q = let l = seven in record { fits = omega arith }
 
-    pub numbered_more : (b : ℕ) → at < i → b ≡ get_or t (i - 1) 0 → b < 256 → Numbered t at e (i - 1) (n * 256 + b)
+    pub numbered_more : (b : ℕ) → b ≡ get_or w (i - 1) 0 → b < 256 → Numbered w (i - 1) (n * 256 + b)
     unfolding bytes_number
-    numbered_more b k q m =
-        let s : suc (i - 1) ≡ i = omega arith in
-        let d : e - (i - 1) ≡ suc (e - i) = omega (arith, p.within) in
+    numbered_more b q m =
+        let d : length w - (i - 1) ≡ suc (length w - i) = omega arith in
         let f = p.fits in
+        let l : i - 1 < length w = omega arith in
+        let e : suc (i - 1) ≡ i = omega arith in
         record {
-          from = omega arith;
-          within = omega (arith, p.within);
-          is = let z = slice-cons (i - 1) e t 0 (omega (arith, p.within)) h.1 ∙ ap (λ (k : ℕ). get_or t (i - 1) 0 ∷ slice k e t) s in
-              let y : bytes_number (slice (i - 1) e t) ≡ get_or t (i - 1) 0 + 256 * bytes_number (slice i e t) = ap bytes_number z in
+          is =
+              let y : drop (i - 1) w ≡ get_or w (i - 1) 0 ∷ drop i w = drop-cons w (i - 1) 0 l ∙ ap (λ (m : ℕ). get_or w (i - 1) 0 ∷ drop m w) e in
+              let x : bytes_number (drop (i - 1) w) ≡ get_or w (i - 1) 0 + 256 * bytes_number (drop i w) = ap bytes_number y in
               omega (arith, p.is);
-          fits = rw (d, pow-suc 256 (e - i)) (omega arith);
+          fits = rw (d, pow-suc 256 (length w - i)) (omega arith);
         }
 
-  pub numbered-all : (i n : ℕ) → i ≤ at → Numbered t at e i n → Numbered t at e at n
-  numbered-all i n k p = let z : i ≡ at = omega (arith, p.from) in rw z at p
+  pub numbered-all : (n : ℕ) → Numbered w 0 n → (n ≡ bytes_number w) × (n < 256 ^ length w)
+  numbered-all n p = let f = p.fits in (p.is, rw (← sub-zero (length w)) f)
 
 -- ---- two parts
 number_append : (v w : Bytes) → bytes_number (v ++ w) ≡ bytes_number v + 256 ^ length v * bytes_number w
@@ -82,57 +82,51 @@ unfolding all
 all_left [] w h = refl
 all_left (b ∷ v) w h = let p = and₂ (in_word b) (all in_word (v ++ w)) h in both₂ p.0 (all_left v w p.1)
 
-slice-split : (at k e : ℕ) (t : Bytes) → at ≤ k → k ≤ e → slice at k t ++ slice k e t ≡ slice at e t
-slice-split at k e t h m = ap (λ (l : Bytes). drop at l ++ slice k e t) (sym (take-take k e t m)) ∙ slice-drop at k (take e t) h
+eight : (w : Bytes) → 8 < length w → bytes_number w ≡ bytes_number (take 8 w) + 18446744073709551616 * bytes_number (drop 8 w)
+eight w k =
+    let l : length (take 8 w) ≡ 8 = length-take-le 8 w (omega arith) in
+    let e : 256 ^ length (take 8 w) ≡ 18446744073709551616 = rw l in
+    ap bytes_number (sym (take-append-drop 8 w)) ∙ number_append (take 8 w) (drop 8 w) ∙ ap (λ (m : ℕ). bytes_number (take 8 w) + m * bytes_number (drop 8 w)) e
 
-eight : (at e : ℕ) (t : Bytes) (h : (at ≤ e) × (e ≤ length t)) → 8 < e - at
-    → bytes_number (slice at e t) ≡ bytes_number (slice at (at + 8) t) + 18446744073709551616 * bytes_number (slice (at + 8) e t)
-eight at e t h k =
-    let l : length (slice at (at + 8) t) ≡ 8 = length-slice at (at + 8) t (omega (arith, h.1)) ∙ (omega arith) in
-    rw (← slice-split at (at + 8) e t (omega arith) (omega arith), number_append (slice at (at + 8) t) (slice (at + 8) e t), l)
+module _ (w : Bytes) where
+  pub low-short : (n : ℕ) → length w ≤ 8 → n ≡ bytes_number w → n < 256 ^ length w → n ≡ low_part w
+  unfolding low_part
+  low-short n k i f = let g = lt_of_lt_of_le f (pow-le-pow_right {n = 256} (omega arith) {j = 8} k) in omega arith
 
-module _ (t : Bytes) (at e : ℕ) where
-  module _ (h : (at ≤ e) × (e ≤ length t)) where
-    pub low-short : (n : ℕ) → e - at ≤ 8 → Numbered t at e at n → n ≡ low_part (slice at e t)
-    unfolding low_part
-    low-short n k p =
-        let f = lt_of_lt_of_le p.fits (pow-le-pow_right {n = 256} (omega arith) {j = 8} k) in
-        let i = p.is in
-        omega arith
+  pub low-long : (n : ℕ) → 8 < length w → n ≡ bytes_number (take 8 w) → n < 256 ^ length (take 8 w) → n ≡ low_part w
+  unfolding low_part
+  low-long n k i f =
+      let l : length (take 8 w) ≡ 8 = length-take-le 8 w (omega arith) in
+      let g : n < 256 ^ 8 = rw l at f in
+      omega (arith, eight w k)
 
-    pub low-long : (n : ℕ) → 8 < e - at → Numbered t at (at + 8) at n → n ≡ low_part (slice at e t)
-    unfolding low_part
-    low-long n k p =
-        let d : at + 8 - at ≡ 8 = omega arith in
-        let f : n < 256 ^ 8 = rw d at p.fits in
-        let i = p.is in
-        omega (arith, eight at e t h k)
+  module _ (u : is_word w ≡ true) where
+    few : length w ≤ 12
+    unfolding is_word
+    few =
+        let p = and₂ (letter_first w && all in_word w && leb (length w) 12) (not (among reserved w)) u in
+        leb-true (length w) 12 (and₂ (letter_first w && all in_word w) (leb (length w) 12) p.0).1
 
-  module _ (h : Run t at e × (e - at ≤ 12)) where
-    number_small : (n : ℕ) → 8 < e - at → Numbered t (at + 8) e (at + 8) n → n < 4294967296
-    number_small n k p = let m = h.1 in lt_of_lt_of_le p.fits (pow-le-pow_right {n = 256} (omega arith) {j = 4} (omega arith))
+    pub high_fits : (n : ℕ) → 8 < length w → n < 256 ^ length (take (length w - 8) (drop 8 w)) → Fits w32 n
+    high_fits n k f = let m = few in record { fits = lt_of_lt_of_le f (pow-le-pow_right {n = 256} (omega arith) {j = 4} (omega (arith, length-drop 8 w, length-take (length w - 8) (drop 8 w)))) }
 
-    pub high_fits : (n : ℕ) → 8 < e - at → Numbered t (at + 8) e (at + 8) n → Fits w32 n
-    high_fits n k p = record { fits = number_small n k p }
+    pub high-few : length (take (length w - 8) (drop 8 w)) ≤ 8
+    high-few = let m = few in omega (arith, length-drop 8 w, length-take (length w - 8) (drop 8 w))
 
-    pub high-short : e - at ≤ 8 → 0 ≡ high_part (slice at e t)
+    pub high-short : length w ≤ 8 → 0 ≡ high_part w
     unfolding high_part
     high-short k =
-        let l = length-slice at e t h.0.within in
-        let b = lt_of_lt_of_le (number_bound (slice at e t) (run-all t at e h.0)) (pow-le-pow_right {n = 256} (omega arith) {j = 8} (omega arith)) in
+        let b = lt_of_lt_of_le (number_bound w (word-parts w u).1) (pow-le-pow_right {n = 256} (omega arith) {j = 8} k) in
         omega arith
 
-    pub high-long : (n : ℕ) → 8 < e - at → Numbered t (at + 8) e (at + 8) n → n ≡ high_part (slice at e t)
+    pub high-long : (n : ℕ) → 8 < length w → n ≡ bytes_number (take (length w - 8) (drop 8 w)) → n ≡ high_part w
     unfolding high_part
-    high-long n k p =
-        let i = p.is in
-        let f = h.0.from in
-        let v = h.0.within in
-        let l : length (slice at (at + 8) t) ≡ 8 = length-slice at (at + 8) t (omega arith) ∙ (omega arith) in
-        let s = slice-split at (at + 8) e t (omega arith) (omega arith) in
-        let a = all_left (slice at (at + 8) t) (slice (at + 8) e t) (ap (all in_word) s ∙ run-all t at e h.0) in
-        let b : bytes_number (slice at (at + 8) t) < 256 ^ 8 = rw l at (number_bound (slice at (at + 8) t) a) in
-        omega (arith, eight at e t (f, v) k)
+    high-long n k i =
+        let l : length (take 8 w) ≡ 8 = length-take-le 8 w (omega arith) in
+        let a = all_left (take 8 w) (drop 8 w) (ap (all in_word) (take-append-drop 8 w) ∙ (word-parts w u).1) in
+        let b : bytes_number (take 8 w) < 256 ^ 8 = rw l at (number_bound (take 8 w) a) in
+        let z = rw (take_all (length w - 8) (drop 8 w) (omega (arith, length-drop 8 w))) at i in
+        omega (arith, eight w k)
 
 -- ---- different words have different numbers
 number_same : (v w : Bytes) → all in_word v ≡ true → all in_word w ≡ true → bytes_number v ≡ bytes_number w → v ≡ w
@@ -155,12 +149,6 @@ unfolding low_part high_part
 parts_same v w h k l m = number_same v w (word-parts v h).1 (word-parts w k).1 (omega arith)
 
 -- ---- looking a word up
-pub same_first : (l h m k : ℕ) → l ≡ m → eqb h k ≡ (eqb l m && eqb h k)
-same_first l h m k e = rw (eq-eqb l m e)
-
-pub same_second : (l h m k : ℕ) → (l ≡ m → ⊥) → false ≡ (eqb l m && eqb h k)
-same_second l h m k n = rw (ne_eqb l m n)
-
 all-at : (ws : List Bytes) (i : ℕ) → all is_word ws ≡ true → i < length ws → is_word (get_or ws i []) ≡ true
 unfolding all
 all-at [] i h k = absurd (omega arith)
@@ -183,28 +171,29 @@ module _ (low high : List ℕ) (count l h : ℕ) where
   unfolding Sought
   sought-none ws w s k p q = omega arith
 
-  module _ (i : ℕ) (n : i < count) (r : Bool) (e : r ≡ (eqb (get_or low i 0) l && eqb (get_or high i 0) h)) (u : Sought low high count l h i) where
-    pub sought-more : r ≡ false → Sought low high count l h (i + 1)
+  module _ (i : ℕ) (n : i < count) (u : Sought low high count l h i) where
+    pub sought-more : ((get_or low i 0 ≡ l) × (get_or high i 0 ≡ h) → ⊥) → Sought low high count l h (i + 1)
     unfolding Sought
     sought-more z ws w s k p q =
         let m = s.counted in
-        u ws w s k p q ∙ index-step ws w i (omega arith) (same_not (get_or ws i []) w (λ x. false≢true (sym z ∙ e ∙ both₂
-        (eq-eqb _ _ (s.lows i n ∙ ap low_part x ∙ sym p)) (eq-eqb _ _ (s.highs i n ∙ ap high_part x ∙ sym q)))))
+        u ws w s k p q ∙ index-step ws w i (omega arith) (same_not (get_or ws i []) w (λ x. z
+        (s.lows i n ∙ ap low_part x ∙ sym p, s.highs i n ∙ ap high_part x ∙ sym q)))
 
-    pub placed-here : r ≡ true → Placed low high count l h i
+    pub placed-here : get_or low i 0 ≡ l → get_or high i 0 ≡ h → Placed low high count l h (Some i)
     unfolding Sought Placed
-    placed-here z ws w s k p q =
-        let m = s.counted in
-        let b = and₂ (eqb (get_or low i 0) l) (eqb (get_or high i 0) h) (sym e ∙ z) in
-        let x = parts_same (get_or ws i []) w (all-at ws i s.words (omega arith)) k
-        (sym (s.lows i n) ∙ eqb-true _ _ b.0 ∙ p) (sym (s.highs i n) ∙ eqb-true _ _ b.1 ∙ q) in
-        sym (u ws w s k p q ∙ index-hit ws w i (omega arith) (ap (λ (v : Bytes). same_bytes v w) x ∙ same_refl w))
+    placed-here a b = (
+      n,
+      λ ws w s k p q.
+          let m = s.counted in
+          let x = parts_same (get_or ws i []) w (all-at ws i s.words (omega arith)) k (sym (s.lows i n) ∙ a ∙ p) (sym (s.highs i n) ∙ b ∙ q) in
+          sym (u ws w s k p q ∙ index-hit ws w i (omega arith) (ap (λ (v : Bytes). same_bytes v w) x ∙ same_refl w)),
+    )
 
-  pub placed-none : (i : ℕ) → count ≤ i → i ≤ count → Sought low high count l h i → Placed low high count l h count
+  pub placed-none : Sought low high count l h count → Placed low high count l h None
   unfolding Sought Placed index
-  placed-none i c d u ws w s k p q =
+  placed-none u ws w s k p q =
       let m = s.counted in
-      let z : index (drop i ws) w ≡ 0 = rw (drop_of_length-le ws {i = i} (omega arith)) in
+      let z : index (drop count ws) w ≡ 0 = rw (drop_of_length-le ws {i = count} (omega arith)) in
       omega (arith, u ws w s k p q)
 
-pub ruleset laws = (rules, numbered-none, numbered-all, mul-fits, add-fits, numbered_more, low-short, low-long, high_fits, high-short, high-long, same_first, same_second, sought-none, sought-more, placed-here, placed-none)
+pub ruleset laws = (rules, numbered-none, numbered-all, mul-fits, add-fits, numbered_more, low-short, low-long, high-few, high_fits, high-short, high-long, sought-none, sought-more, placed-here, placed-none)

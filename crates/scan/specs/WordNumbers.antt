@@ -1,6 +1,5 @@
 -- A dictionary as two arrays: a word's bytes as one number, the first byte lowest, split at 2^64. Assumes nothing.
-use Rattle.std.specs.Prelude.{◌≡◌, Bool, true, List, [], ℕ, ◌+◌, ◌-◌, ◌*◌, ◌/◌, ◌%◌, ◌^◌, ◌≤◌, ◌<◌, length, get_or, drop, if◌then◌else◌}
-use Rattle.std.proofs.Math.Seq.{slice}
+use Rattle.std.specs.Prelude.{◌≡◌, Bool, true, List, [], ℕ, ◌+◌, ◌-◌, ◌*◌, ◌/◌, ◌%◌, ◌^◌, ◌≤◌, ◌<◌, length, get_or, drop, if◌then◌else◌, Option, Some, None}
 use Rattle.atlite.specs.Base.{bytes, all}
 use Rattle.atlite.specs.Lexicon.{Bytes, is_word, among, noted, words_from, words_of, without_apply, dictionary}
 use Rattle.layout.specs.Layout.{bytes_number}
@@ -12,12 +11,10 @@ low_part w = bytes_number w % 18446744073709551616
 unfoldable pub high_part : Bytes → ℕ
 high_part w = bytes_number w / 18446744073709551616
 
--- n is the number of the bytes from i to e, which are taken from the last to the first
-pub record Numbered (t : Bytes) (at e i n : ℕ) : Type 0 where
-  pub from : at ≤ i
-  pub within : i ≤ e
-  pub is : n ≡ bytes_number (slice i e t)
-  pub fits : n < 256 ^ (e - i)
+-- n is the number of the bytes from i on, which are taken from the last to the first
+pub record Numbered (w : Bytes) (i n : ℕ) : Type 0 where
+  pub is : n ≡ bytes_number (drop i w)
+  pub fits : n < 256 ^ (length w - i)
 
 -- the first `count` entries are the words ws
 pub record Holds (ws : List Bytes) (low high : List ℕ) (count : ℕ) : Type 0 where
@@ -26,10 +23,12 @@ pub record Holds (ws : List Bytes) (low high : List ℕ) (count : ℕ) : Type 0 
   pub lows : (i : ℕ) → i < count → get_or low i 0 ≡ low_part (get_or ws i [])
   pub highs : (i : ℕ) → i < count → get_or high i 0 ≡ high_part (get_or ws i [])
 
--- r is where the word with the parts l and h stands, whatever words are held
-unfoldable pub Placed : List ℕ → List ℕ → ℕ → ℕ → ℕ → ℕ → Type 0
-Placed low high count l h r =
-    (ws : List Bytes) (w : Bytes) → Holds ws low high count → is_word w ≡ true → l ≡ low_part w → h ≡ high_part w → r ≡ index ws w
+-- the answer is where the word with the parts l and h stands, whatever words are held
+unfoldable pub Placed : List ℕ → List ℕ → ℕ → ℕ → ℕ → Option ℕ → Type 0
+Placed low high count l h (Some i) =
+    (i < count) × ((ws : List Bytes) (w : Bytes) → Holds ws low high count → is_word w ≡ true → l ≡ low_part w → h ≡ high_part w → i ≡ index ws w)
+Placed low high count l h None =
+    (ws : List Bytes) (w : Bytes) → Holds ws low high count → is_word w ≡ true → l ≡ low_part w → h ≡ high_part w → count ≡ index ws w
 
 -- it is none of the first i
 unfoldable pub Sought : List ℕ → List ℕ → ℕ → ℕ → ℕ → ℕ → Type 0

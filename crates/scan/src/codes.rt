@@ -1,70 +1,40 @@
-// The numbers of words, and where a word stands among others.
-ghost use Rattle.std.specs.Prelude.{◌≡◌, ◌-◌, ◌≤◌, ◌<◌, ◌&&◌, eqb, length};
-ghost use Rattle.std.proofs.Math.Seq.{slice};
-ghost use Rattle.scan.specs.Runs.{Run};
-ghost use Rattle.scan.specs.WordNumbers.{Numbered, low_part, high_part, Placed};
+// The numbers of words.
+ghost use Rattle.std.specs.Prelude.{◌≡◌, true, ◌^◌, ◌≤◌, ◌<◌, length};
+ghost use Rattle.atlite.specs.Lexicon.{is_word};
+ghost use Rattle.layout.specs.Layout.{bytes_number};
+ghost use Rattle.scan.specs.WordNumbers.{low_part, high_part};
 
-fn wide(b: u8) -> u64
-    ensures { (result ≡ b) × (result < 256) }
+// Bytes, at most eight, as one number, the first lowest.
+#[tactic(auto, using(crate::specs::WordNumberLaws::laws))]
+fn number(bytes: &[u8]) -> u64
+    requires { length bytes.now ≤ 8 }
+    ensures { (result ≡ bytes_number bytes.now) × (result < 256 ^ length bytes.now) }
 {
-    b as u64
-}
-
-// The bytes from `at` to `end`, at most eight, as one number, the first lowest.
-fn number(text: &[u8], at: usize, end: usize) -> u64
-    requires { (at ≤ end) × (end ≤ length text.now) × (end - at ≤ 8) }
-    ensures { Numbered text.now at end at result }
-{
-    let mut i = end;
-    let mut n = 0u64;
-    while at < i {
-        n = n * 256 + wide(text[i - 1]);
-        i -= 1;
+    let mut n = 0;
+    for i in (0..bytes.len()).rev() {
+        n = n * 256 + u64::from(bytes[i]);
     }
     n
 }
 
 // A word's number below and above 2^64.
-pub fn low_part(text: &[u8], at: usize, end: usize) -> u64
-    requires { (at ≤ end) × (end ≤ length text.now) }
-    ensures { result ≡ low_part (slice at end text.now) }
+#[tactic(auto, using(crate::specs::WordNumberLaws::laws))]
+pub fn low_part(word: &[u8]) -> u64
+    ensures { result ≡ low_part word.now }
 {
-    if end - at <= 8 {
-        return number(text, at, end);
+    if word.len() <= 8 {
+        return number(word);
     }
-    number(text, at, at + 8)
+    number(&word[..8])
 }
 
-pub fn high_part(text: &[u8], at: usize, end: usize) -> u32
-    requires { Run text.now at end × (end - at ≤ 12) }
-    ensures { result ≡ high_part (slice at end text.now) }
+#[tactic(auto, using(crate::specs::WordNumberLaws::laws))]
+pub fn high_part(word: &[u8]) -> u32
+    requires { is_word word.now ≡ true }
+    ensures { result ≡ high_part word.now }
 {
-    if end - at <= 8 {
+    if word.len() <= 8 {
         return 0;
     }
-    number(text, at + 8, end) as u32
-}
-
-fn same_parts(l: u64, h: u32, m: u64, k: u32) -> bool
-    ensures { result ≡ (eqb l m && eqb h k) }
-{
-    if l == m {
-        return h == k;
-    }
-    false
-}
-
-// The place of the word with the parts `l` and `h` among the first `count`, or `count`.
-pub fn find(low: &[u64], high: &[u32], count: usize, l: u64, h: u32) -> usize
-    requires { (count ≤ length low.now) × (count ≤ length high.now) }
-    ensures { Placed low.now high.now count l h result }
-{
-    let mut i = 0;
-    while i < count {
-        if same_parts(low[i], high[i], l, h) {
-            return i;
-        }
-        i += 1;
-    }
-    count
+    number(&word[8..]) as u32
 }

@@ -1,5 +1,5 @@
 -- What the parser's answer means for the reader: a script whose lines stand in the scratch words, or cause 2. Assumes nothing.
-use Rattle.std.specs.Prelude.{ℕ, ◌≤◌, ◌≡◌, Bool, Err, List, length, Some, None}
+use Rattle.std.specs.Prelude.{ℕ, ◌≤◌, ◌≡◌, Bool, Some, None, Err, List, length}
 use Rattle.std.proofs.Common.{arith, rules}
 use Rattle.atlite.specs.Lexicon.{dictionary}
 use Rattle.atlite.specs.declared.Cause.TheVariants as C

@@ -1,5 +1,5 @@
 // Reading a text into its table.
-ghost use Rattle.std.specs.Prelude.{◌≡◌, ◌+◌, ◌≤◌, if◌then◌else◌};
+ghost use Rattle.std.specs.Prelude.{◌≡◌, ◌+◌, if◌then◌else◌};
 ghost use Rattle.atlite.specs.Answers.{read_answer};
 ghost use Rattle.promises.specs.Meaning.{read_call};
 ghost use Rattle.script.specs.ReadContract.{Reads};
@@ -8,41 +8,45 @@ ghost use Rattle.script.specs.ReaderCauses.{Sized, Grammar, Scoped, Sound};
 use crate::TEXT;
 use atlite::Cause;
 use layout::TABLE;
-use parse::Source;
+use parse::{Parsed, Source};
+use scan::Vocabulary;
 
 // How many different words the text has.
-fn known(count: usize, apply: bool) -> usize
-    requires { count ≤ 2048 }
-    ensures { result ≡ count + (if apply then 1 else 0) }
+fn different(known: &Vocabulary) -> usize
+    ensures { result ≡ known.now.count + (if known.now.apply then 1 else 0) }
 {
-    count + usize::from(apply)
+    known.count + usize::from(known.apply)
 }
 
 // Causes 5: brackets, words, nodes. The table is written where none of them is found.
 fn limits(
     text: &[u8],
     s: &[u64; 4096],
-    words: usize,
-    lines: usize,
-    low: &[u64; 2048],
-    high: &[u32; 2048],
-    count: usize,
-    apply: bool,
+    p: Parsed,
+    known: &Vocabulary,
     table: &mut [u32],
 ) -> Result<(), Cause>
-    requires { Sound text.now table.old s.now low.now high.now words lines count apply }
+    requires { Sound text.now table.old s.now known.now.low known.now.high p.words p.lines known.now.count known.now.apply }
     ensures { Reads text.now table.old result table.new }
 {
     if 32 < checks::depth::depth(text) {
         return Err(Cause::Oversized);
     }
-    if 64 < known(count, apply) {
+    if 64 < different(known) {
         return Err(Cause::Oversized);
     }
-    if 512 < checks::size::size(s, words, lines) {
+    if 512 < checks::size::size(s, p.words, p.lines) {
         return Err(Cause::Oversized);
     }
-    checks::table::write_table(s, words, lines, low, high, count, table);
+    checks::table::write_table(
+        s,
+        p.words,
+        p.lines,
+        &known.low,
+        &known.high,
+        known.count,
+        table,
+    );
     Ok(())
 }
 
@@ -50,43 +54,35 @@ fn limits(
 fn lists(
     text: &[u8],
     s: &[u64; 4096],
-    words: usize,
-    lines: usize,
-    low: &[u64; 2048],
-    high: &[u32; 2048],
-    count: usize,
-    apply: bool,
+    p: Parsed,
+    known: &Vocabulary,
     table: &mut [u32],
 ) -> Result<(), Cause>
-    requires { Scoped text.now table.old s.now low.now high.now words lines count apply }
+    requires { Scoped text.now table.old s.now known.now.low known.now.high p.words p.lines known.now.count known.now.apply }
     ensures { Reads text.now table.old result table.new }
 {
-    if !checks::single::single(s, words, lines) {
+    if !checks::single::single(s, p.words, p.lines) {
         return Err(Cause::Repeated);
     }
-    limits(text, s, words, lines, low, high, count, apply, table)
+    limits(text, s, p, known, table)
 }
 
 // Cause 3, and what comes after it.
 fn scopes(
     text: &[u8],
     s: &[u64; 4096],
-    words: usize,
-    lines: usize,
-    low: &[u64; 2048],
-    high: &[u32; 2048],
-    count: usize,
-    apply: bool,
+    p: Parsed,
+    known: &Vocabulary,
     table: &mut [u32],
 ) -> Result<(), Cause>
-    requires { Grammar text.now table.old s.now low.now high.now words lines count apply }
+    requires { Grammar text.now table.old s.now known.now.low known.now.high p.words p.lines known.now.count known.now.apply }
     ensures { Reads text.now table.old result table.new }
 {
     let mut last = [0u16; 4096];
-    if !checks::bound::bound(s, words, lines, &mut last) {
+    if !checks::bound::bound(s, p.words, p.lines, &mut last) {
         return Err(Cause::Unbound);
     }
-    lists(text, s, words, lines, low, high, count, apply, table)
+    lists(text, s, p, known, table)
 }
 
 // The grammar, and what comes after it.
@@ -95,22 +91,17 @@ fn grammar(text: &[u8], table: &mut [u32]) -> Result<(), Cause>
     requires { Sized text.now table.old }
     ensures { Reads text.now table.old result table.new }
 {
-    let mut low = [0u64; 2048];
-    let mut high = [0u32; 2048];
-    let found = scan::scan(text, &mut low, &mut high);
-    let count = found.count;
-    let apply = found.apply;
+    let mut known = Vocabulary::new();
+    scan::scan(text, &mut known);
     let mut s = [0u64; 4096];
     let source = Source {
         text,
-        low: &low,
-        high: &high,
-        count,
+        words: &known,
     };
     let Some(p) = parse::parse(&source, &mut s) else {
         return Err(Cause::Grammar);
     };
-    scopes(text, &s, p.words, p.lines, &low, &high, count, apply, table)
+    scopes(text, &s, p, &known, table)
 }
 
 // Lengths, and what comes after them.

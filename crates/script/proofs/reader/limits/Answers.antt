@@ -5,8 +5,8 @@ use Rattle.script.proofs.reader.limits.Goals as goal
 pub returns-then-depth-gt32 : goal.returns-then-depth-gt32
 returns-then-depth-gt32 c = search laws
 
-pub returns-then-known-gt64 : goal.returns-then-known-gt64
-returns-then-known-gt64 c = search laws
+pub returns-then-different-gt64 : goal.returns-then-different-gt64
+returns-then-different-gt64 c = search laws
 
 pub returns-then-size-gt512 : goal.returns-then-size-gt512
 returns-then-size-gt512 c = search laws
