@@ -21,7 +21,7 @@ pub fn zeros(w: &[u32], at: usize, n: usize) -> bool
     words::all_zero(&w[at..at + n])
 }
 
-// Whether `y` is one of the `n` names in `x`.
+// Whether `y` is one of the `n` names in `x`. A recursion, for a loop would have what is left of `x` and of `n` as two variables of its own.
 #[tactic(auto, using(crate::specs::ValueLaws::among_laws))]
 fn among(x: u32, n: usize, y: u32) -> bool
     ensures { result ≡ member y (names_in n x) }

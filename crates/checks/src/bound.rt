@@ -45,7 +45,7 @@ fn binds(h: u64) -> u64
     }
 }
 
-// The end of the `n` trees at `at`, if every variable in them is bound.
+// The end of the `n` trees at `at`, if every variable in them is bound. A recursion, as `single::walk` is.
 #[cycle(scans)]
 fn scan(
     s: &[u64],

@@ -61,6 +61,7 @@ fn noted(h: u64, kept: u64) -> u64
 }
 
 // The end of the `n` trees at `at`, if no list in them names one thing twice. `kept` has the signatures of the headers before them.
+// A recursion and no loop, since what it answers is said of the trees that are left.
 fn walk(s: &[u64], at: usize, n: usize, kept: u64) -> Option<usize>
     requires { (length s.now ≤ 4096) × (at ≤ 4096) }
     ensures walked { Walked s.now (length s.now) at n kept result }

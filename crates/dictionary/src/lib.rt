@@ -33,6 +33,7 @@ fn is_own(t: &[u8; 12]) -> bool
     requires { AreBytes t.now }
     ensures { result ≡ own_word (spelled t.now) }
 {
+    // The first test stands by itself, since the check does not go through a chain of three here.
     let end = scan::run_end(t, 0);
     if !ends(&t[end..]) {
         return false;
@@ -58,6 +59,7 @@ fn same_entry(w: &[u32], i: usize, j: usize) -> bool
     requires { (i + 3 ≤ length w.now) × (j + 3 ≤ length w.now) }
     ensures { result ≡ same_bytes (entry_at w.now i) (entry_at w.now j) }
 {
+    // As in `is_own`.
     if w[i] != w[j] {
         return false;
     }

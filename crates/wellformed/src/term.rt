@@ -282,7 +282,7 @@ impl Terms<'_> {
         self.fields_from(a, n - 1, header::noted(h, kept), scope, e)
     }
 
-    // The same of methods.
+    // The same of methods. One function for both would have two arguments more, for the test of a header and for what stands behind it.
     #[cycle(terms)]
     fn methods_from(
         &self,
