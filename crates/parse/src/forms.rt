@@ -1,6 +1,7 @@
 // Expressions by their operator, each form from its parts, and messages with their arguments. Forms hold expressions: these functions and
 // those of the module below call each other in a cycle, which has one proof. The files of that proof are named after all functions of the
 // cycle, and a name of over 255 bytes cannot be kept: then every crate above would prove the cycle again.
+// `out` and a place in it stay two arguments: a form's head word is written last, at `o`, before its words, which go on at a place of their own.
 ghost use Rattle.std.specs.Prelude.{◌≡◌, ◌+◌, ◌≤◌, ◌<◌, length};
 ghost use Rattle.atlite.specs.Script.{count_srcs};
 ghost use Rattle.words.specs.Wide.{wide_src, wide_srcs};

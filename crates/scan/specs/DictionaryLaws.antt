@@ -15,7 +15,7 @@ use Rattle.atlite.specs.Reader.{item}
 use Rattle.atlite_laws.specs.Facts.{and₂, both₂, or-false, same_true, same_refl, same-false-sym, tests-append}
 use Rattle.reading.specs.Items.{Ends}
 use Rattle.reading.specs.Dictionary.{words-run}
-use Rattle.scan.specs.Runs.{Run, index}
+use Rattle.scan.specs.Runs.{Run}
 use Rattle.scan.specs.Keywords.{among_none, among-some, index-le, run-all, slice-drop, slice-take}
 use Rattle.scan.specs.WordNumbers.{low_part, high_part, Holds, Placed, Found, Noted, Scanning, Dictionary}
 

@@ -1,13 +1,12 @@
 -- The numbers of words: computed from the last byte to the first, split at 2^64, and different for different words.
 -- Assumes nothing.
-use Rattle.std.specs.Prelude.{◌≡◌, refl, Bool, true, false, ◌&&◌, ◌||◌, List, [], ◌∷◌, ◌++◌, eqb, leb, not, take, drop, Some, None}
+use Rattle.std.specs.Prelude.{◌≡◌, refl, Bool, true, false, ◌&&◌, ◌||◌, List, [], ◌∷◌, ◌++◌, leb, not, take, drop, Some, None}
 use Rattle.std.proofs.Math.Path.{sym, ap}
 use Rattle.std.proofs.Common.{ap₂, ◌∙◌, add-zero, mul_assoc, add-one, rules, drop_of_length-le, drop-cons, length-take-le, length-drop, length-take, take_all, take-append-drop, Fits}
-use Rattle.std.proofs.Math.Bool.{false≢true}
 use Prim.Native.Nat.{ℕ, zero, suc, ◌+◌, ◌-◌, ◌*◌, ◌^◌, ◌≤◌, ◌<◌}
 use Rattle.std.proofs.Math.Nat.{pow-suc, pow-le-pow_right, pow-zero, sub-zero, sub_self, lt_of_lt_of_le, pow-succ'}
 use native.Mathlib.Omega.{arith}
-use borrow.Author.Tests.{leb-true, eq-eqb, ne_eqb, eqb-true}
+use borrow.Author.Tests.{leb-true}
 use Rattle.std.proofs.Math.ListN.{length, get_or}
 use Rattle.std.specs.Int.{w64, w32}
 use Rattle.atlite.specs.Base.{same_bytes, all}

@@ -1,13 +1,12 @@
 -- Two runs of words compared, one compared with zeros, and one run of bytes copied: what the functions promise, and what a turn of
--- their loops keeps. Assumes nothing.
-use Rattle.std.specs.Prelude.{◌≡◌, refl, Bool, true, false, List, [], ◌∷◌, ◌++◌, ℕ, zero, suc, ◌+◌, ◌≤◌, ◌<◌, eqb, length, take, drop, get_or, set}
+-- the loops keeps. Assumes nothing.
+use Rattle.std.specs.Prelude.{◌≡◌, refl, Bool, true, false, List, [], ◌∷◌, ◌++◌, ℕ, zero, suc, ◌+◌, ◌≤◌, ◌<◌, eqb, length, take, drop, get_or}
 use Rattle.std.proofs.Common.{sym, ap, ap₂, ◌∙◌, subst as transp, append_assoc, add-one, arith, rules, eqb-true, ne_eqb, take-suc, drop-cons, take-take, get_or-take, length-take-le, take_all}
 use Rattle.std.proofs.lemmas.Bool.{false≢true, eqb-false}
 use Rattle.std.specs.Int.Bits.{bit_or, or_zero_r, or_add_and}
 use Rattle.std.proofs.lemmas.Nat.{and_le_l}
 use Rattle.layout.specs.Pack.{zeros}
 use Rattle.layout_laws.specs.PackLaws.{length-zeros}
-use Rattle.std.proofs.lemmas.List.{set_at}
 use Rattle.std.proofs.Math.Seq.{take-length}
 
 -- r tells whether the lists are equal
@@ -101,21 +100,4 @@ module _ (w : List ℕ) where
       let l = length-zeros (length w) in
       rw (z, take-length w, take_all (length w) (zeros (length w)) (omega arith)) at s
 
--- ---- copying
-pub copy_start : (from old : List ℕ) → Copied from 0 old old
-unfolding Copied
-copy_start from old = refl
-
-pub copy_more : (from old new : List ℕ) (i n : ℕ) → i < n → n ≤ length from → n ≤ length old → Copied from i old new → Copied from (i + 1) old (set new i (get_or from i 0))
-unfolding Copied
-copy_more from old new i n l h k c =
-    let x = get_or from i 0 in
-    let z : length (take i from) ≡ i = length-take-le i from (omega arith) in
-    ap (λ u. set u i x) (c ∙ ap {B = List ℕ} (λ u. take i from ++ u) (drop-cons old i 0 (omega arith)))
-    ∙ set_at (take i from) (get_or old i 0) (drop (suc i) old) x i z
-    ∙ rw (add-one, take-suc from i 0 (omega arith)) (sym (append_assoc (take i from) (x ∷ []) (drop (suc i) old)))
-
-pub copy-end : (from old new : List ℕ) (i n : ℕ) → n ≤ i → i ≤ n → Copied from i old new → Copied from n old new
-copy-end from old new i n h k c = let z : i ≡ n = omega arith in transp (λ m. Copied from m old new) z c
-
-pub ruleset laws = (rules, same_start, same_more, same_end, gathers, zero-start, zero_more, zero-end, still-same, still-not, copy_start, copy_more, copy-end)
+pub ruleset laws = (rules, same_start, same_more, same_end, gathers, zero-start, zero_more, zero-end, still-same, still-not)

@@ -18,7 +18,8 @@ fn still(same: bool, x: u32, y: u32) -> bool
     false
 }
 
-// Whether `a` and `b` begin with the same `n` words. It looks at all of them, so that it runs on many at a time.
+// Whether `a` and `b` begin with the same `n` words. It looks at all of them, so that it runs on many at a time: `==` stops at the first that
+// differ, and with it the loop no longer does.
 pub fn same_words(a: &[u32], b: &[u32], n: usize) -> bool
     requires { (n ≤ length a.now) × (n ≤ length b.now) }
     ensures { Same (take n a.now) (take n b.now) result }
@@ -39,7 +40,7 @@ fn gathered(x: u32, y: u32) -> u32
     x | y
 }
 
-// Whether every word of `w` is zero. It looks at all of them, as above, and compares once, in the end.
+// Whether every word of `w` is zero. It looks at all of them, as above, and compares once, in the end: `all` stops at the first that is not.
 pub fn all_zero(w: &[u32]) -> bool
     ensures { Same w.now (zeros (length w.now)) result }
 {
@@ -53,34 +54,19 @@ pub fn all_zero(w: &[u32]) -> bool
 }
 
 // Puts the first `n` bytes of `from` in front of `to`.
+#[tactic(auto, unfolding(crate::specs::Runs::Copied))]
 pub fn copy_bytes(from: &[u8], n: usize, to: &mut [u8])
     requires { (n ≤ length from.now) × (n ≤ length to.old) }
     ensures { Copied from.now n to.old to.new }
 {
-    let mut i = 0;
-    while i < n {
-        to[i] = from[i];
-        i += 1;
-    }
-}
-
-// Copies the words `from` over the words `old`, which are as many.
-fn copy_words(from: &[u32], old: &mut [u32])
-    requires { length from.now ≡ length old.old }
-    ensures { old.new ≡ from.now }
-{
-    let mut i = 0;
-    while i < from.len() {
-        old[i] = from[i];
-        i += 1;
-    }
+    to[..n].copy_from_slice(&from[..n]);
 }
 
 // Writes the words `x` from `at` on.
+#[tactic(auto, using(crate::specs::Puts::laws))]
 pub fn put_words(w: &mut [u32], at: usize, x: &[u32])
     requires { at + length x.now ≤ length w.old }
     ensures { w.new ≡ sets w.old at x.now }
 {
-    let end = at + x.len();
-    copy_words(x, &mut w[at..end]);
+    w[at..at + x.len()].copy_from_slice(x);
 }
