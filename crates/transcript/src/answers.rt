@@ -1,52 +1,39 @@
 // The answer of a call, as it stands in the line of the answers.
-ghost use Rattle.std.specs.Prelude.{◌∷◌, ◌≤◌};
+ghost use Rattle.std.specs.Prelude.{◌∷◌};
 ghost use Rattle.atlite.specs.Answers.{move_answer};
 ghost use Rattle.atlite.specs.Printer.{print_number};
-ghost use Rattle.showing.specs.Writer.{most, Wrote};
-ghost use Rattle.transcript.specs.AnswerTexts.{gap, told, Put};
+ghost use Rattle.showing.specs.Put.{Put};
+ghost use Rattle.transcript.specs.AnswerTexts.{gap, told, Told};
 
-use crate::wide;
 use atlite::Moved;
+use showing::Writer;
 
 // Between two answers stands a space: `i` were written before.
-pub fn put_space(i: usize, text: &mut [u8], k: usize) -> usize
-    requires { k ≤ most }
-    ensures { Wrote text.old k (gap i) text.new result }
+pub fn put_space(i: usize, text: &mut Writer<'_>)
+    ensures { Put text.old (gap i) text.new }
 {
-    if i == 0 {
-        return k;
+    if i != 0 {
+        text.put(b' ');
     }
-    showing::put(b' ', text, k)
 }
 
 // The letter of an answer with the actor that it names.
-fn put_named(letter: u8, actor: u8, text: &mut [u8], k: usize) -> usize
-    requires { k ≤ most }
-    ensures { Put text.old k (letter ∷ print_number actor) text.new result }
+fn put_named(letter: u8, actor: u8, text: &mut Writer<'_>)
+    ensures { Told text.old (letter ∷ print_number actor) text.new }
 {
-    let n = wide(actor);
-    let p = showing::put(letter, text, k);
-    showing::put_number(n, text, p)
+    text.put(letter);
+    text.put_number(u32::from(actor));
 }
 
-// The cause of a call that was refused.
-fn put_cause(cause: u8, text: &mut [u8], k: usize) -> usize
-    requires { k ≤ most }
-    ensures { Put text.old k (print_number cause) text.new result }
-{
-    let n = wide(cause);
-    showing::put_number(n, text, k)
-}
-
-pub fn put_answer(answer: Moved, text: &mut [u8], k: usize) -> usize
-    requires { k ≤ most }
-    ensures { Put text.old k (told (move_answer answer)) text.new result }
+// What a call came to: a letter, with the actor that it names, or the number of the cause that refused it.
+pub fn put_answer(answer: Moved, text: &mut Writer<'_>)
+    ensures { Told text.old (told (move_answer answer)) text.new }
 {
     match answer {
-        Moved::Inner => showing::put(b'I', text, k),
-        Moved::Taken => showing::put(b'T', text, k),
-        Moved::Sent(actor) => put_named(b'S', actor.0, text, k),
-        Moved::Created(actor) => put_named(b'C', actor.0, text, k),
-        Moved::Refused(cause) => put_cause(cause, text, k),
+        Moved::Inner => text.put(b'I'),
+        Moved::Taken => text.put(b'T'),
+        Moved::Sent(actor) => put_named(b'S', actor.0, text),
+        Moved::Created(actor) => put_named(b'C', actor.0, text),
+        Moved::Refused(cause) => text.put_number(u32::from(cause)),
     }
 }
