@@ -1,11 +1,12 @@
 -- `replay`: the calls, made one after another. The invariant of their loop: the words are those of the state that the calls so far leave,
 -- and the text is what they answered. Assumes nothing.
+use base.Fml.{GName}
 use Rattle.std.specs.Prelude.{ℕ, ◌+◌, ◌*◌, ◌≤◌, ◌<◌, ◌≡◌, refl, List, [], ◌∷◌, ◌++◌, drop, get_or}
-use Rattle.std.proofs.Common.{sym, ◌∙◌, subst as transp, append_assoc, arith, add-one, rules, length-append, take_at, take_all}
+use Rattle.std.proofs.Common.{sym, ◌∙◌, subst as transp, append_assoc, arith, add-one, length-append, take_at, take_all}
 use Rattle.std.proofs.Math.Path.{ap}
 use Rattle.std.proofs.Math.ListN.{length, take}
 use Rattle.std.proofs.lemmas.List.Edits.{sets-eq}
-use Rattle.std.proofs.Math.Seq.{length-sets, take-suc, length-take-le}
+use Rattle.std.proofs.Math.Seq.{take-suc, length-take-le}
 use Rattle.atlite.specs.Base.{Result, done, refused, ◌>>=◌}
 use Rattle.atlite.specs.Lexicon.{Bytes}
 use Rattle.atlite.specs.Move.{AfterMove, move}
@@ -17,31 +18,30 @@ use Rattle.invariant.specs.Moves.{move-keeps}
 use Rattle.layout.specs.Layout.{encode}
 use Rattle.promises.specs.Meaning.{answered, lent, move_call}
 use Rattle.layout_laws.specs.MeaningLaws.{lent-state, state-lent, move-length}
-use Rattle.showing.specs.Writer.{Wrote, wrote-two}
+use Rattle.showing.specs.Writer.{Wrote}
+use Rattle.showing.specs.declared.writer.Writer.{Writer}
+use Rattle.showing.specs.Put.{Put, then}
 use Rattle.input_line.specs.Limits.{longest}
-use Rattle.transcript.specs.AnswerTexts.{gap, gap-few, told, Put}
+use Rattle.transcript.specs.AnswerTexts.{gap, gap-few, told, Told}
 use Rattle.play.specs.Limits.{answer_room, answers_room}
 use Rattle.play.specs.Starts.{Holds}
 
--- The actor a was called, i others before it: the words w are now w', and the answer was written at k.
-pub record CallMade (w : List ℕ) (a i : ℕ) (old : List ℕ) (k : ℕ) (w' new : List ℕ) (r : ℕ) : Type 0 where
+-- The actor a was called, i others before it: the words w are now w', and the answer was put.
+pub record CallMade (w : List ℕ) (a i : ℕ) (old : Writer) (w' : List ℕ) (new : Writer) : Type 0 where
   pub words : w' ≡ (move_call w a).buffer
-  pub wrote : Wrote old k (gap i ++ told (move_call w a).result) new r
+  pub put : Put old (gap i ++ told (move_call w a).result) new
   pub few : length (gap i ++ told (move_call w a).result) ≤ answer_room
 
-pub call-made : (w : List ℕ) (a i : ℕ) (old : List ℕ) (k : ℕ) (w' new : List ℕ) (r : ℕ) (x : Returned Moved) (mid : List ℕ) (p : ℕ)
-    → move_answer x ≡ (move_call w a).result → w' ≡ (move_call w a).buffer → Wrote old k (gap i) mid p → Put mid p (told (move_answer x)) new r
-    → CallMade w a i old k w' new r
-call-made w a i old k w' new r x mid p e d f g =
-    let t = told (move_answer x) in
-    let z = ap (λ y. gap i ++ told y) e in
+pub call-made : {x y z : Writer} (w : List ℕ) (a i : ℕ) (w' : List ℕ) (r : Returned Moved) → move_answer r ≡ (move_call w a).result → w' ≡ (move_call w a).buffer
+    → Put x (gap i) y → Told y (told (move_answer r)) z → CallMade w a i x w' z
+call-made {x} {y} {z} w a i w' r e d f g =
+    let t = told (move_answer r) in
+    let q = ap (λ u. gap i ++ told u) e in
     record {
       words = d;
-      wrote = transp (λ s. Wrote old k s new r) z (wrote-two old k (gap i) t mid new p r f g.wrote);
-      few = transp (λ s. length s ≤ answer_room) z (omega (arith, length-append (gap i) t, gap-few i, g.few));
+      put = transp (λ s. Put x s z) q (then f g.put);
+      few = transp (λ s. length s ≤ answer_room) q (omega (arith, length-append (gap i) t, gap-few i, g.few));
     }
-
-pub ruleset answering = (rules, call-made)
 
 -- ---- one call more
 -- the last of some calls
@@ -79,20 +79,39 @@ module _ (w : List ℕ) (R : Replayed) (h : lent w ≡ done R.state) (a : ℕ) w
       go (refused n) e = (refl, h)
 
 -- ---- the loop
--- Of the calls es for the state in w₀ the first i have been made. The words are w, and their answers are the first k bytes of the text.
-pub record Calling (w₀ es : List ℕ) (i : ℕ) (w : List ℕ) (k : ℕ) (text : List ℕ) : Type 0 where
+-- Of the calls es for the state in w₀ the first i have been made. The words are w, and their answers are what was put into the text, which
+-- had the name m.
+pub record Calling (w₀ es : List ℕ) (m : GName) (i : ℕ) (w : List ℕ) (text : Writer) : Type 0 where
   pub held : Holds w₀
   pub passed : i ≤ length es
   pub short : length es ≤ longest
-  pub size : length text ≡ answers_room
+  pub same : text.out.ghost_name ≡ m
+  pub size : length text.out.now ≡ answers_room
   pub stays : length w ≡ length w₀
-  pub few : k ≤ i * answer_room
+  pub few : text.len ≤ i * answer_room
   pub words : lent w ≡ done (called held.state (take i es)).state
-  pub is : take k text ≡ print_items (called held.state (take i es)).answers
+  pub is : take text.len text.out.now ≡ print_items (called held.state (take i es)).answers
 
-pub call-starts : (w es text : List ℕ) → Holds w → length es ≤ longest → length text ≡ answers_room → Calling w es 0 w 0 text
+-- The words w are a state's, the calls es are few enough, and the text has nothing in it and room for their answers.
+pub record Ready (w es : List ℕ) (text : Writer) : Type 0 where
+  pub held : Holds w
+  pub short : length es ≤ longest
+  pub size : length text.out.now ≡ answers_room
+  pub empty : text.len ≡ 0
+
+pub call-starts : {w es : List ℕ} {text : Writer} → Ready w es text → Calling w es text.out.ghost_name 0 w text
 unfolding called call_from print_items
-call-starts w es text h s z = record { held = h; passed = omega arith; short = s; size = z; stays = refl; few = omega arith; words = h.is; is = refl }
+call-starts {text = text} r = record {
+  held = r.held;
+  passed = omega arith;
+  short = r.short;
+  same = refl;
+  size = r.size;
+  stays = refl;
+  few = omega (arith, r.empty);
+  words = r.held.is;
+  is = ap (λ k. take k text.out.now) r.empty;
+}
 
 -- what was written at the end of the first k bytes stands behind them
 take-wrote : (old : List ℕ) (k : ℕ) (s new : List ℕ) (r : ℕ) → length old ≡ answers_room → k + length s ≤ answers_room → Wrote old k s new r
@@ -110,11 +129,11 @@ pub record Lined (w es w' : List ℕ) (r : ℕ) (text : List ℕ) : Type 0 where
   pub words : lent w' ≡ done (called held.state es).state
   pub is : take r text ≡ print_items (called held.state es).answers ++ (10 ∷ [])
 
-module _ (w₀ es : List ℕ) (i : ℕ) (w : List ℕ) (k : ℕ) (text : List ℕ) (g : Calling w₀ es i w k text) where
+module _ {w₀ es : List ℕ} {m : GName} {i : ℕ} {w : List ℕ} {text : Writer} (g : Calling w₀ es m i w text) where
   abbrev so_far : Replayed
   so_far = called g.held.state (take i es)
 
-  module _ (h : i < length es) (w' new : List ℕ) (r : ℕ) (c : CallMade w (get_or es i 0) i text k w' new r) where
+  module _ {w' : List ℕ} {new : Writer} (h : i < length es) (c : CallMade w (get_or es i 0) i text w' new) where
     abbrev answer : Bytes
     answer = told (move_call w (get_or es i 0)).result
 
@@ -134,32 +153,34 @@ module _ (w₀ es : List ℕ) (i : ℕ) (w : List ℕ) (k : ℕ) (text : List �
         let n : length so_far.answers ≡ i = answers-length _ (take i es) ∙ omega (arith, length-take-le i es (omega arith)) in
         ap (λ R. print_items R.answers) call_next ∙ ap print_items made.0 ∙ items-last so_far.answers answer ∙ ap (λ j. print_items so_far.answers ++ (gap j ++ answer)) n
 
-    pub call-goes : Calling w₀ es (i + 1) w' r new
+    pub call-goes : Calling w₀ es m (i + 1) w' new
     call-goes =
-        let b : k + length (gap i ++ answer) ≤ answers_room = omega (arith, g.few, g.short, c.few) in
-        let v = take-wrote text k (gap i ++ answer) new r g.size b c.wrote in
+        let b : text.len + length (gap i ++ answer) ≤ answers_room = omega (arith, g.few, g.short, c.few) in
+        let v = take-wrote text.out.now text.len (gap i ++ answer) new.out.now new.len g.size b c.put.wrote in
         record {
           held = g.held;
           passed = omega arith;
           short = g.short;
-          size = ap length (c.wrote.is (omega arith)) ∙ length-sets text k (gap i ++ answer) ∙ g.size;
+          same = c.put.same ∙ g.same;
+          size = c.put.kept ∙ g.size;
           stays = ap length c.words ∙ move-length w (get_or es i 0) ∙ g.stays;
           few = omega (arith, v.0, g.few, c.few);
           words = ap lent c.words ∙ made.1 ∙ ap (λ R. done R.state) (sym call_next);
           is = v.1 ∙ ap (λ x. x ++ (gap i ++ answer)) g.is ∙ sym answer-next;
         }
 
-  pub call_ends : length es ≤ i → (new : List ℕ) (r : ℕ) → Wrote text k (10 ∷ []) new r → Lined w₀ es w r new
-  call_ends h new r c =
+  pub call_ends : {new : Writer} → length es ≤ i → Put text (10 ∷ []) new → Lined w₀ es w new.len new.out.now
+  call_ends {new} h c =
       let e : take i es ≡ es = take_all i es h in
-      let b : k + 1 ≤ answers_room = omega (arith, g.few, g.passed, g.short) in
-      let v = take-wrote text k (10 ∷ []) new r g.size b c in
+      let b : text.len + 1 ≤ answers_room = omega (arith, g.few, g.passed, g.short) in
+      let v = take-wrote text.out.now text.len (10 ∷ []) new.out.now new.len g.size b c.wrote in
       record {
         few = omega (arith, v.0);
-        inside = omega (arith, v.0, ap length (c.is (omega arith)) ∙ length-sets text k (10 ∷ []) ∙ g.size);
+        inside = omega (arith, v.0, c.kept, g.size);
         held = g.held;
         words = g.words ∙ ap (λ x. done (called g.held.state x).state) e;
         is = v.1 ∙ ap (λ x. x ++ (10 ∷ [])) (g.is ∙ ap (λ x. print_items (called g.held.state x).answers) e);
       }
 
-pub ruleset laws = (rules, call-starts, call-goes, call_ends)
+pub call_all : {w₀ es : List ℕ} {m : GName} {i : ℕ} {w : List ℕ} {text : Writer} → Calling w₀ es m i w text → length es ≤ i → Calling w₀ es m (length es) w text
+call_all {w₀} {es} {m} {w = w} {text = text} g h = let e = g.passed in transp (λ i. Calling w₀ es m i w text) (omega arith) g

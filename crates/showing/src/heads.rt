@@ -14,7 +14,8 @@ const FIELD_KIND: u32 = 128;
 
 const METHOD: u32 = 192;
 
-// The name behind the operator of the word `h`, or that of no name.
+// The name behind the operator of the word `h`, or the layout's number of no name, which a header's empty places hold too: so `put_name` tells
+// it once, where an Option would be taken apart at each call.
 fn first_name(h: u32) -> u32
     ensures { result ≡ first h }
 {

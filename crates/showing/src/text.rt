@@ -38,7 +38,7 @@ fn known(x: u32) -> &'static [u8]
     }
 }
 
-// The word of kind `k`, or nothing where it has none.
+// The word of kind `k`, or nothing where it has none. The numbers stay: this table is what names them, and a constant would repeat each word.
 fn keyword(k: u32) -> &'static [u8]
     ensures { result.now ≡ word_of k }
 {

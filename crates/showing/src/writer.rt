@@ -55,7 +55,7 @@ impl<'a> Writer<'a> {
         }
     }
 
-    // A number of at most eight digits.
+    // A number of at most eight digits. `write!` promises no text where it answers Err, which a writer that never gives up cannot rule out.
     pub fn put_number(&mut self, n: u32)
         requires { n < 100000000 }
         ensures { Put self.old (print_number n) self.new }

@@ -1,7 +1,7 @@
 -- The texts of the answers that calls give, and the space between two. Assumes nothing.
 use Prim.Native.Nat.{ℕ, zero, suc, ◌≤◌}
 use Rattle.std.specs.Prelude.{◌≡◌, Ok, Err, refl, List, [], ◌∷◌, length}
-use Rattle.std.proofs.Common.{subst as transp, rules}
+use Rattle.std.proofs.Common.{subst as transp}
 use native.Mathlib.Omega.{arith}
 use Rattle.atlite.specs.Base.{Result, done, refused, bytes}
 use Rattle.atlite.specs.Lexicon.{Bytes}
@@ -14,7 +14,8 @@ use Rattle.atlite.specs.declared.Moved.{Moved}
 use Rattle.atlite.specs.Causes.{number}
 use Rattle.atlite.specs.declared.Cause.{Cause}
 use Rattle.atlite.specs.declared.Moved.TheVariants as M
-use Rattle.showing.specs.Writer.{most, Wrote, wrote_none, wrote-two}
+use Rattle.showing.specs.declared.writer.Writer.{Writer}
+use Rattle.showing.specs.Put.{Put, put_none, then}
 use Rattle.transcript.specs.Digits.{byte-digits, cause-few}
 
 -- what stands before the answer to a call that i others were made before
@@ -31,50 +32,46 @@ unfoldable pub told : Result Answer → Bytes
 told (done x) = answer_text x
 told (refused n) = print_number n
 
--- The text s of an answer was written at k.
-pub record Put (old : List ℕ) (k : ℕ) (s new : List ℕ) (r : ℕ) : Type 0 where
-  pub wrote : Wrote old k s new r
+-- The text s of an answer was put.
+pub record Told (old : Writer) (s : List ℕ) (new : Writer) : Type 0 where
+  pub put : Put old s new
   pub few : length s ≤ 4
 
-module _ (old : List ℕ) (k : ℕ) (new : List ℕ) (r : ℕ) where
-  pub gap-none : (i : ℕ) → i ≡ 0 → k ≤ most → Wrote old k (gap i) old k
-  unfolding gap
-  gap-none i e h = rw e (wrote_none old k h)
+pub gap-none : {a : Writer} {i : ℕ} → i ≡ 0 → Put a (gap i) a
+unfolding gap
+gap-none e = rw e put_none
 
-  pub gap-wrote : (i : ℕ) → (i ≡ 0 → ⊥) → Wrote old k (32 ∷ []) new r → Wrote old k (gap i) new r
-  unfolding gap
-  gap-wrote zero n g = absurd (n refl)
-  gap-wrote (suc i) n g = g
+pub gap-put : {a b : Writer} (i : ℕ) → (i ≡ 0 → ⊥) → Put a (32 ∷ []) b → Put a (gap i) b
+unfolding gap
+gap-put zero n g = absurd (n refl)
+gap-put (suc i) n g = g
 
+module _ {a b : Writer} where
   -- m is the byte n
-  module _ (m n : ℕ) (e : m ≡ n) (h : n ≤ 255) where
-    pub named_put : (b : ℕ) (mid : List ℕ) (p : ℕ) → Wrote old k (b ∷ []) mid p → Wrote mid p (print_number m) new r → Put old k (b ∷ print_number n) new r
-    named_put b mid p f g =
-        transp (λ x. Put old k (b ∷ print_number x) new r) e
-        (record { wrote = wrote-two old k (b ∷ []) (print_number m) mid new p r f g; few = omega (arith, byte-digits m (omega arith)) })
+  module _ {m n : ℕ} (e : m ≡ n) (h : n ≤ 255) where
+    pub named_put : (l : ℕ) {c : Writer} → Put a (l ∷ []) b → Put b (print_number m) c → Told a (l ∷ print_number n) c
+    named_put l {c} f g = transp (λ x. Told a (l ∷ print_number x) c) e (record { put = then {s = l ∷ []} f g; few = omega (arith, byte-digits m (omega arith)) })
 
-    pub number-put : Wrote old k (print_number m) new r → Put old k (print_number n) new r
-    number-put g = transp (λ x. Put old k (print_number x) new r) e (record { wrote = g; few = omega (arith, byte-digits m (omega arith)) })
+    pub number-put : Put a (print_number m) b → Told a (print_number n) b
+    number-put g = transp (λ x. Told a (print_number x) b) e (record { put = g; few = omega (arith, byte-digits m (omega arith)) })
 
-  module _ (a : Returned Moved) (x : Moved) (e : a ≡ Ok x) where
-    pub inner-put : x ≡ M.Inner → Wrote old k (73 ∷ []) new r → Put old k (told (move_answer a)) new r
+  module _ (r : Returned Moved) (x : Moved) (e : r ≡ Ok x) where
+    pub inner-put : x ≡ M.Inner → Put a (73 ∷ []) b → Told a (told (move_answer r)) b
     unfolding told move_answer answer_text bytes
-    inner-put f g = rw (e, f) (record { wrote = g; few = omega arith })
+    inner-put f g = rw (e, f) (record { put = g; few = omega arith })
 
-    pub taken-put : x ≡ M.Taken → Wrote old k (84 ∷ []) new r → Put old k (told (move_answer a)) new r
+    pub taken-put : x ≡ M.Taken → Put a (84 ∷ []) b → Told a (told (move_answer r)) b
     unfolding told move_answer answer_text bytes
-    taken-put f g = rw (e, f) (record { wrote = g; few = omega arith })
+    taken-put f g = rw (e, f) (record { put = g; few = omega arith })
 
-    pub sent-put : (b : ActorNo) → x ≡ M.Sent b → Put old k (83 ∷ print_number b.0) new r → Put old k (told (move_answer a)) new r
+    pub sent-put : (n : ActorNo) → x ≡ M.Sent n → Told a (83 ∷ print_number n.0) b → Told a (told (move_answer r)) b
     unfolding told move_answer answer_text bytes
-    sent-put b f g = rw (e, f) g
+    sent-put n f g = rw (e, f) g
 
-    pub created-put : (b : ActorNo) → x ≡ M.Created b → Put old k (67 ∷ print_number b.0) new r → Put old k (told (move_answer a)) new r
+    pub created-put : (n : ActorNo) → x ≡ M.Created n → Told a (67 ∷ print_number n.0) b → Told a (told (move_answer r)) b
     unfolding told move_answer answer_text bytes
-    created-put b f g = rw (e, f) g
+    created-put n f g = rw (e, f) g
 
-  pub refused-put : (a : Returned Moved) (c : Cause) → a ≡ Err c → (m : ℕ) → m ≡ number c → Wrote old k (print_number m) new r → Put old k (told (move_answer a)) new r
+  pub refused-put : (r : Returned Moved) (c : Cause) → r ≡ Err c → {m : ℕ} → m ≡ number c → Put a (print_number m) b → Told a (told (move_answer r)) b
   unfolding told move_answer
-  refused-put a c e m f g = rw e (number-put m (number c) f (omega (arith, cause-few c)) g)
-
-pub ruleset laws = (rules, gap-none, gap-wrote, named_put, inner-put, taken-put, sent-put, created-put, refused-put)
+  refused-put r c e f g = rw e (number-put f (omega (arith, cause-few c)) g)

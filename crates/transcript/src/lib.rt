@@ -3,18 +3,18 @@
 // Nothing here stands on the engine: each function puts bytes into a text for an answer or a cause that it is given.
 #![tactic(auto)]
 
-ghost use Rattle.std.specs.Prelude.{◌+◌, ◌≤◌, ◌≡◌, length};
+ghost use Rattle.std.specs.Prelude.{◌+◌, ◌≤◌, length};
 ghost use Rattle.atlite.specs.Base.{refused};
 ghost use Rattle.atlite.specs.Causes.{number};
 ghost use Rattle.atlite.specs.Program.{shown};
 ghost use Rattle.atlite.specs.Replay.{bad_token};
-ghost use Rattle.showing.specs.Writer.{most};
 ghost use Rattle.transcript.specs.Output.{listing_room, Written, Fronted};
 
 mod answers;
 
 pub use answers::{put_answer, put_space};
 use atlite::Cause;
+use showing::Writer;
 
 // The bytes that a listing may have.
 pub const LISTING: usize = 65536;
@@ -24,10 +24,11 @@ pub fn refuse(cause: Cause, out: &mut [u8]) -> usize
     requires { listing_room ≤ length out.old }
     ensures { Written (shown (refused (number cause))) out.old result out.new }
 {
-    let n = u32::from(cause.number());
-    let a = showing::put_bytes(b"(refused ", out, 0);
-    let b = showing::put_number(n, out, a);
-    showing::put_bytes(b")\n", out, b)
+    let mut text = Writer::new(out);
+    text.put_bytes(b"(refused ");
+    text.put_number(u32::from(cause.number()));
+    text.put_bytes(b")\n");
+    text.len()
 }
 
 // Writes the line of a line of calls that has no meaning.
@@ -35,14 +36,17 @@ pub fn bad_token(out: &mut [u8]) -> usize
     requires { listing_room ≤ length out.old }
     ensures { Written bad_token out.old result out.new }
 {
-    showing::put_bytes(b"(bad token)\n", out, 0)
+    let mut text = Writer::new(out);
+    text.put_bytes(b"(bad token)\n");
+    text.len()
 }
 
 // Puts `head` in front of the `n` bytes that stand behind it.
 pub fn put_head(head: &[u8], n: usize, out: &mut [u8]) -> usize
-    requires { (length head.now ≤ most) × (length head.now + listing_room ≤ length out.old) × (n ≤ listing_room) }
+    requires { (length head.now + listing_room ≤ length out.old) × (n ≤ listing_room) }
     ensures { Fronted head.now n out.old result out.new }
 {
-    let k = showing::put_bytes(head, out, 0);
+    let k = head.len();
+    out[..k].copy_from_slice(head);
     k + n
 }

@@ -1,7 +1,12 @@
 -- `refuse` meets its contract. Assumes nothing.
-use Rattle.std.proofs.Common.{◌∙◌}
+use Rattle.std.proofs.Common.{◌∙◌, rules}
+use Rattle.atlite.specs.Base.{bytes}
 use Rattle.transcript.specs.Output.{refusal-written}
 use Rattle.transcript.proofs.refuse.Goals as goal
 
 pub returns : goal.returns
-returns c = refusal-written _ c.requires c.args.cause _ (c.from-n.ensures ∙ c.number.ensures) _ _ _ _ _ _ c.put_bytes-a.ensures c.put_number-b.ensures c.put_bytes.ensures
+unfolding bytes
+returns c =
+    let w = refusal-written c.requires c.new-text.ensures.bytes c.new-text.ensures.empty c.args.cause _ (c.from.ensures ∙ c.number.ensures) c.put_bytes.ensures c.put_number.ensures c.put_bytes-2.ensures in
+    let e = c.len.ensures in
+    search (rules, w)

@@ -1,6 +1,6 @@
 -- `make_call` meets its contract. Assumes nothing.
-use Rattle.play.specs.Calls.{answering}
+use Rattle.play.specs.Calls.{call-made}
 use Rattle.play.proofs.answers.make_call.Goals as goal
 
 pub returns : goal.returns
-returns c = search answering
+returns c = call-made _ _ _ _ _ c.move_actor-answer.ensures.0 c.move_actor-answer.ensures.1 c.put_space.ensures c.put_answer.ensures
