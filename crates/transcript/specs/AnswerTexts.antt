@@ -55,7 +55,7 @@ module _ {a b : Writer} where
     pub number-put : Put a (print_number m) b → Told a (print_number n) b
     number-put g = transp (λ x. Told a (print_number x) b) e (record { put = g; few = omega (arith, byte-digits m (omega arith)) })
 
-  module _ (r : Returned Moved) (x : Moved) (e : r ≡ Ok x) where
+  module _ {r : Returned Moved} {x : Moved} (e : r ≡ Ok x) where
     pub inner-put : x ≡ M.Inner → Put a (73 ∷ []) b → Told a (told (move_answer r)) b
     unfolding told move_answer answer_text bytes
     inner-put f g = rw (e, f) (record { put = g; few = omega arith })
@@ -72,6 +72,6 @@ module _ {a b : Writer} where
     unfolding told move_answer answer_text bytes
     created-put n f g = rw (e, f) g
 
-  pub refused-put : (r : Returned Moved) (c : Cause) → r ≡ Err c → {m : ℕ} → m ≡ number c → Put a (print_number m) b → Told a (told (move_answer r)) b
+  pub refused-put : {r : Returned Moved} (c : Cause) → r ≡ Err c → {m : ℕ} → m ≡ number c → Put a (print_number m) b → Told a (told (move_answer r)) b
   unfolding told move_answer
-  refused-put r c e f g = rw e (number-put f (omega (arith, cause-few c)) g)
+  refused-put c e f g = rw e (number-put f (omega (arith, cause-few c)) g)

@@ -3,7 +3,7 @@
 // Nothing here stands on the engine: each function puts bytes into a text for an answer or a cause that it is given.
 #![tactic(auto)]
 
-ghost use Rattle.std.specs.Prelude.{◌+◌, ◌≤◌, length};
+ghost use Rattle.std.specs.Prelude.{◌+◌, ◌≤◌, ◌≡◌, length};
 ghost use Rattle.atlite.specs.Base.{refused};
 ghost use Rattle.atlite.specs.Causes.{number};
 ghost use Rattle.atlite.specs.Program.{shown};
