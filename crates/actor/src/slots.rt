@@ -12,7 +12,7 @@ ghost use Rattle.actor.specs.Bodies.{methods_reach};
 
 use crate::part::Part;
 use crate::values;
-use layout::{BODIES, DIGIT, DIGITS, PAYLOAD, REST, SLOT, SLOT_BODY, SLOT_UNIT};
+use layout::{BODIES, DIGIT, DIGITS, PAYLOAD, REST, SLOT, SLOT_BODY, SLOT_UNIT, entity};
 use term_words::word;
 use wellformed::Terms;
 
@@ -151,11 +151,11 @@ impl Part<'_> {
             return None;
         }
         match self.words[at] % DIGIT {
-            1 => self.object(at, b, true),
-            2 => self.object(at, b, false),
-            3 => self.open(at).then_some(b),
-            4 => self.settled(at).then_some(b),
-            5 => self.resolver(at).then_some(b),
+            entity::OBJECT => self.object(at, b, true),
+            entity::ISOLATE => self.object(at, b, false),
+            entity::OPEN => self.open(at).then_some(b),
+            entity::RESOLVED => self.settled(at).then_some(b),
+            entity::RESOLVER => self.resolver(at).then_some(b),
             _ => None,
         }
     }

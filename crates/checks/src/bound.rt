@@ -10,6 +10,7 @@ ghost use Rattle.checks.specs.Bound.{sees as sees_in, Base, binds as binds_of, b
 ghost use Rattle.checks.specs.Scope.{Kept};
 
 use crate::{scope, tree};
+use layout::kind;
 use words::wide;
 
 // Whether the word `h` is no variable, or is one in scope.
@@ -26,8 +27,8 @@ fn sees(h: u64, base: u16, last: &[u16; 4096]) -> bool
 fn base_of(h: u64, base: u16, level: u16) -> u16
     ensures { Base h base level result }
 {
-    match h % wide::KINDS {
-        16 | 17 => level,
+    match (h % wide::KINDS) as u32 {
+        kind::ISOLATE | kind::ACTOR => level,
         _ => base,
     }
 }
@@ -38,9 +39,9 @@ fn binds(h: u64) -> u64
     ensures { result ≡ binds_of h }
 {
     let p = h / wide::KINDS;
-    match h % wide::KINDS {
-        11 | 12 | 65 | 67 => p,
-        192 => p / wide::PARAMS,
+    match (h % wide::KINDS) as u32 {
+        kind::LET | kind::FUTURE | kind::FN | kind::WHEN => p,
+        kind::METHOD => p / wide::PARAMS,
         _ => 0,
     }
 }

@@ -8,6 +8,7 @@ ghost use Rattle.checks.specs.Single.{apart as are_apart, own as own_of, noted a
 ghost use Rattle.checks.specs.SingleLines.{LinesSingle, Single};
 
 use crate::tree;
+use layout::kind;
 use words::wide;
 
 // Whether `x` is none of the three signatures in `kept`.
@@ -34,10 +35,10 @@ fn own(h: u64, kept: u64) -> bool
     ensures { result ≡ own_of h kept }
 {
     let p = h / wide::KINDS;
-    match h % wide::KINDS {
-        12 => p % wide::LIMIT != p / wide::LIMIT % wide::LIMIT,
-        128 => fresh(kept, p % wide::SIGNED),
-        192 => {
+    match (h % wide::KINDS) as u32 {
+        kind::FUTURE => p % wide::LIMIT != p / wide::LIMIT % wide::LIMIT,
+        kind::FIELD => fresh(kept, p % wide::SIGNED),
+        kind::METHOD => {
             fresh(kept, p % wide::SIGNED)
                 && apart(
                     p / wide::PARAMS % wide::LIMIT,

@@ -6,7 +6,7 @@ ghost use Rattle.checks.specs.Narrow.{table_word, narrow as narrowed};
 ghost use Rattle.checks.specs.TableRegions.{Written};
 ghost use Rattle.checks.specs.TableWriteLaws.{Placed, MethodWord, Cleared, LinesPut, WordPut, WordsPut};
 
-use layout::{LINES, TABLE};
+use layout::{LINES, TABLE, kind};
 use words::wide;
 
 // The layout's numbers, as wide as the words of the scratch form.
@@ -59,16 +59,16 @@ fn narrow(h: u64) -> u32
 {
     let k = h % wide::KINDS;
     let p = h / wide::KINDS;
-    match k {
-        12 => table_word(
+    match k as u32 {
+        kind::FUTURE => table_word(
             k,
             p % wide::LIMIT + NAME_LIMIT * (p / wide::LIMIT % wide::LIMIT),
         ),
-        13 | 14 | 64 => table_word(
+        kind::CALL | kind::SEND | kind::ASK => table_word(
             k,
             p % wide::LIMIT + TAGGED_LIMIT * (p / wide::LIMIT % wide::LIMIT),
         ),
-        192 => method_word(p),
+        kind::METHOD => method_word(p),
         _ => table_word(k, p),
     }
 }

@@ -3,6 +3,7 @@ ghost use Rattle.std.specs.Prelude.{◌≡◌, ◌≤◌};
 ghost use Rattle.checks.specs.Lines.{Start};
 ghost use Rattle.checks.specs.Trees.{outer as outer_of, inner as inner_of};
 
+use layout::kind;
 use words::wide;
 
 // Those in the word's own scope: of a literal the fields, of a message the receiver and the arguments.
@@ -12,13 +13,13 @@ pub fn outer(h: u64) -> usize
 {
     let k = h % wide::KINDS;
     let p = h / wide::KINDS;
-    match k {
-        11 => 1,
-        12 => 0,
-        13 | 14 | 64 => (1 + p / wide::LIMIT % 4) as usize,
-        15 | 16 | 17 => (p % wide::DIGIT) as usize,
-        66 | 68 => 2,
-        67 | 128 => 1,
+    match k as u32 {
+        kind::LET => 1,
+        kind::FUTURE => 0,
+        kind::CALL | kind::SEND | kind::ASK => (1 + p / wide::LIMIT % 4) as usize,
+        kind::OBJECT | kind::ISOLATE | kind::ACTOR => (p % wide::DIGIT) as usize,
+        kind::RESOLVE | kind::SEQ => 2,
+        kind::WHEN | kind::FIELD => 1,
         _ => kinds::operands(k as u32) as usize,
     }
 }
@@ -30,9 +31,9 @@ pub fn inner(h: u64) -> usize
 {
     let k = h % wide::KINDS;
     let p = h / wide::KINDS;
-    match k {
-        11 | 12 | 65 | 67 | 192 => 1,
-        15 | 16 | 17 => (p / wide::DIGIT % wide::DIGIT) as usize,
+    match k as u32 {
+        kind::LET | kind::FUTURE | kind::FN | kind::WHEN | kind::METHOD => 1,
+        kind::OBJECT | kind::ISOLATE | kind::ACTOR => (p / wide::DIGIT % wide::DIGIT) as usize,
         _ => 0,
     }
 }

@@ -14,7 +14,7 @@ ghost use Rattle.lister.specs.SlotContract.{Slotted};
 use layout::{
     BODIES, BODIES_SIZE, COPIED, COPIED_COUNT, DIGIT, DIGITS, EXPR, HEAD, HEADER, INBOX,
     INBOX_COUNT, MADE, MADE_COUNT, NAME_LIMIT, NO_NAME, PART, PAYLOAD, SLOT, SLOT_UNIT, STATE,
-    WAITING,
+    WAITING, entity,
 };
 use showing::Writer;
 
@@ -53,9 +53,9 @@ fn put_kind(k: u32, text: &mut Writer<'_>)
     ensures { Put text.old (kind_in k) text.new }
 {
     match k {
-        1 => text.put_bytes(b"(object "),
-        2 => text.put_bytes(b"(isolate "),
-        5 => text.put_bytes(b"(resolver "),
+        entity::OBJECT => text.put_bytes(b"(object "),
+        entity::ISOLATE => text.put_bytes(b"(isolate "),
+        entity::RESOLVER => text.put_bytes(b"(resolver "),
         _ => text.put_bytes(b"(future "),
     }
 }
@@ -65,12 +65,12 @@ fn put_state(t: &[u32], k: u32, v: u32, text: &mut Writer<'_>)
     ensures { Put text.old (state_in t.now k v) text.new }
 {
     match k {
-        3 => text.put_bytes(b" open"),
-        4 => {
+        entity::OPEN => text.put_bytes(b" open"),
+        entity::RESOLVED => {
             text.put(b' ');
             text.put_leaf(t, v);
         }
-        5 => put_spaced(v % PAYLOAD, text),
+        entity::RESOLVER => put_spaced(v % PAYLOAD, text),
         _ => {}
     }
 }

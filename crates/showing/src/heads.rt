@@ -4,7 +4,7 @@ ghost use Rattle.showing.specs.Put.{Put};
 ghost use Rattle.showing.specs.TextOfWords.{first, second, after, count, open_in, places_in, params_in, operator_in, head_in};
 
 use crate::Writer;
-use layout::{NAME_LIMIT, NO_NAME, PAYLOAD, SECOND_PLACE, TAGGED_LIMIT, THIRD_PLACE};
+use layout::{NAME_LIMIT, NO_NAME, PAYLOAD, SECOND_PLACE, TAGGED_LIMIT, THIRD_PLACE, kind};
 
 // The most operands that a form has.
 const OPERANDS: usize = 14;
@@ -44,10 +44,10 @@ pub fn name_after(h: u32) -> u32
         return h % NAME_LIMIT;
     }
     match k {
-        13 => h % TAGGED_LIMIT,
-        14 => h % TAGGED_LIMIT,
-        64 => h % TAGGED_LIMIT,
-        67 => h % NAME_LIMIT,
+        kind::CALL => h % TAGGED_LIMIT,
+        kind::SEND => h % TAGGED_LIMIT,
+        kind::ASK => h % TAGGED_LIMIT,
+        kind::WHEN => h % NAME_LIMIT,
         _ => NO_NAME,
     }
 }

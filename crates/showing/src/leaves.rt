@@ -5,7 +5,7 @@ ghost use Rattle.showing.specs.Put.{Put};
 ghost use Rattle.showing.specs.TextOfWords.{series_in, owner_in, ref_in, leaf_in};
 
 use crate::Writer;
-use layout::{NAME_LIMIT, NUMBER_LIMIT, OWNER_LIMIT, OWNER_UNIT, PAYLOAD};
+use layout::{NAME_LIMIT, NUMBER_LIMIT, OWNER_LIMIT, OWNER_UNIT, PAYLOAD, kind};
 
 impl Writer<'_> {
     // A series, between two numbers.
@@ -43,9 +43,9 @@ impl Writer<'_> {
         ensures { Put self.old (leaf_in t.now h) self.new }
     {
         match h / PAYLOAD {
-            1 => self.put_keyword(1),
-            2 => self.put_number(h % PAYLOAD),
-            3 => self.put_ref(h),
+            kind::NULL => self.put_keyword(1),
+            kind::NUMBER => self.put_number(h % PAYLOAD),
+            kind::REFERENCE => self.put_ref(h),
             _ => self.put_word(t, h % NAME_LIMIT),
         }
     }

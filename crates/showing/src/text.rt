@@ -5,7 +5,7 @@ ghost use Rattle.showing.specs.Put.{Put};
 ghost use Rattle.showing.specs.TextOfWords.{letter_in, letters_in, known_in, word_in, tagged_in, name_in};
 
 use crate::Writer;
-use layout::{NAME_LIMIT, NO_NAME};
+use layout::{NAME_LIMIT, NO_NAME, kind, tag};
 
 // The words that no dictionary has come first, then those of the dictionary.
 const KNOWN: u32 = 8;
@@ -43,29 +43,29 @@ fn keyword(k: u32) -> &'static [u8]
     ensures { result.now ≡ word_of k }
 {
     match k {
-        1 => b"null",
-        6 => b"this",
-        7 => b"plus",
-        8 => b"percent",
-        9 => b"get",
-        10 => b"set",
-        11 => b"let",
-        12 => b"future",
-        13 => b"call",
-        14 => b"send",
-        15 => b"object",
-        16 => b"isolate",
-        17 => b"actor",
-        18 => b"same",
-        19 => b"if",
-        64 => b"ask",
-        65 => b"fn",
-        66 => b"resolve",
-        67 => b"when",
-        68 => b"seq",
-        128 => b"field",
-        130 => b"def",
-        192 => b"method",
+        kind::NULL => b"null",
+        kind::VARIABLE => b"this",
+        kind::PLUS => b"plus",
+        kind::PERCENT => b"percent",
+        kind::GET => b"get",
+        kind::SET => b"set",
+        kind::LET => b"let",
+        kind::FUTURE => b"future",
+        kind::CALL => b"call",
+        kind::SEND => b"send",
+        kind::OBJECT => b"object",
+        kind::ISOLATE => b"isolate",
+        kind::ACTOR => b"actor",
+        kind::SAME => b"same",
+        kind::CHOOSE => b"if",
+        kind::ASK => b"ask",
+        kind::FN => b"fn",
+        kind::RESOLVE => b"resolve",
+        kind::WHEN => b"when",
+        kind::SEQ => b"seq",
+        kind::FIELD => b"field",
+        kind::DEFINITION => b"def",
+        kind::METHOD => b"method",
         _ => b"",
     }
 }
@@ -108,12 +108,12 @@ impl Writer<'_> {
         ensures { Put self.old (tagged_in t.now c) self.new }
     {
         match c / NAME_LIMIT {
-            0 => self.put_word(t, c),
-            1 => {
+            tag::PLAIN => self.put_word(t, c),
+            tag::TWO_WAY => {
                 self.put_word(t, c - NAME_LIMIT);
                 self.put_bytes(b".f");
             }
-            2 => self.put_bytes(b".resolve"),
+            tag::RESOLVE => self.put_bytes(b".resolve"),
             _ => self.put_bytes(b".register"),
         }
     }

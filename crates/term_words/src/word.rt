@@ -9,7 +9,7 @@ ghost use Rattle.term_words.specs.Words.{within, holds, send_in, call_in, lone a
 
 use crate::Owner;
 use heap::EntityNo;
-use layout::{NAME_LIMIT, NUMBER_LIMIT, PAYLOAD};
+use layout::{NAME_LIMIT, NUMBER_LIMIT, PAYLOAD, kind, tag};
 
 // The slots of a part, as words count them: so many kinds a table has for an actor.
 pub const SLOTS: u32 = layout::SLOT_COUNT as u32;
@@ -91,8 +91,8 @@ impl Owner<'_> {
         let x = p % NAME_LIMIT;
         let n = p / NAME_LIMIT / 4;
         match p / NAME_LIMIT % 4 {
-            0 => self.named(x, n, 0, 3),
-            2 => lone(x, n),
+            tag::PLAIN => self.named(x, n, 0, 3),
+            tag::RESOLVE => lone(x, n),
             _ => false,
         }
     }
@@ -105,8 +105,8 @@ impl Owner<'_> {
         let x = p % NAME_LIMIT;
         let n = p / NAME_LIMIT / 4;
         match p / NAME_LIMIT % 4 {
-            0 => self.named(x, n, 0, 3),
-            1 => self.named(x, n, 1, 4),
+            tag::PLAIN => self.named(x, n, 0, 3),
+            tag::TWO_WAY => self.named(x, n, 1, 4),
             _ => lone(x, n),
         }
     }
@@ -118,9 +118,9 @@ impl Owner<'_> {
     {
         let q = x % PAYLOAD;
         match x / PAYLOAD {
-            1 => q == 0,
-            2 => true,
-            3 => refs && self.reference(q),
+            kind::NULL => q == 0,
+            kind::NUMBER => true,
+            kind::REFERENCE => refs && self.reference(q),
             _ => false,
         }
     }

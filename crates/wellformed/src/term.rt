@@ -10,7 +10,7 @@ ghost use Rattle.term_words.specs.Words.{holds};
 ghost use Rattle.term_words.specs.Ends.{end_of, methods_hold, Behind, bound, Leaf, Unlisted, Operands, Closed, TermEnds, FormEnds, LiteralEnds, PartsEnd, FieldsEnd, MethodsEnd};
 
 use checks::scope;
-use layout::{DIGIT, NAME_LIMIT, NO_NAME, PAIR_LIMIT, PAYLOAD, TAGGED_LIMIT};
+use layout::{DIGIT, NAME_LIMIT, NO_NAME, PAIR_LIMIT, PAYLOAD, TAGGED_LIMIT, kind};
 use term_words::{Owner, header, scopes};
 
 // Words that terms stand in, and whose they are.
@@ -94,8 +94,8 @@ impl Terms<'_> {
     {
         let n = header::arguments(h % PAYLOAD);
         match h / PAYLOAD {
-            13 => self.owner.call_name(h).then_some(n),
-            14 => self.owner.message_name(h).then_some(n),
+            kind::CALL => self.owner.call_name(h).then_some(n),
+            kind::SEND => self.owner.message_name(h).then_some(n),
             _ => None,
         }
     }
@@ -159,9 +159,9 @@ impl Terms<'_> {
     {
         let p = h % PAYLOAD;
         match h / PAYLOAD {
-            11 => self.let_in(at, p, scope, e),
-            12 => self.future(at, p, scope, e),
-            15 | 16 | 17 => self.literal(at, h, scope, e),
+            kind::LET => self.let_in(at, p, scope, e),
+            kind::FUTURE => self.future(at, p, scope, e),
+            kind::OBJECT | kind::ISOLATE | kind::ACTOR => self.literal(at, h, scope, e),
             _ => None,
         }
     }
