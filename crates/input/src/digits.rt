@@ -17,7 +17,7 @@ pub fn digit(b: u8) -> usize
     (b - b'0') as usize
 }
 
-// The number of two digits at `at`.
+// The number of two digits at `at`. Two and five are no one function of a length, since each has the bound that its callers count with.
 #[tactic(auto, unfolding(crate::specs::Digits::two_at))]
 pub fn two(bytes: &[u8], at: usize) -> usize
     requires { at + 2 ≤ length bytes.now }

@@ -52,6 +52,7 @@ pub fn read_all<R: Read>(reader: &mut R, buffer: &mut [u8]) -> Result<usize, Unr
 {
     let mut at = 0;
     let mut left = FAILURES;
+    // No turn is counted: one that fails leaves the place where it was, and the failures of all turns count together.
     while at < buffer.len() {
         match get(reader, buffer, at) {
             Some(0) => return Ok(at),
