@@ -13,6 +13,7 @@ use atlite::ActorNo;
 
 // Reads a script's text into the first 1,280 words of `table`: 0, or a cause from 1 to 6.
 #[unsafe(no_mangle)]
+#[tactic(auto, using(crate::specs::Numbers::laws))]
 pub extern "C" fn atlite_read(text: &[u8], table: &mut [u32]) -> u32
     ensures value { result ≡ cause (read_call text.now table.old).result }
     ensures table_after { table.new ≡ (read_call text.now table.old).buffer }
@@ -23,6 +24,7 @@ pub extern "C" fn atlite_read(text: &[u8], table: &mut [u32]) -> u32
 
 // Writes the text of the table in the first 1,280 words of `table` in front of `text`, and its length to `bytes`: 0, or a cause, 6 or 7.
 #[unsafe(no_mangle)]
+#[tactic(auto, using(crate::specs::Numbers::laws))]
 pub extern "C" fn atlite_print(table: &[u32], text: &mut [u8], bytes: &mut usize) -> u32
     ensures value { result ≡ cause (print_call table.now text.old).result }
     ensures text_after { text.new ≡ (print_call table.now text.old).buffer }
@@ -35,6 +37,7 @@ pub extern "C" fn atlite_print(table: &[u32], text: &mut [u8], bytes: &mut usize
 // One move of the actor `actor` in the state in the first 16,384 words of `state`; its kind to `kind`, and to `other` the actor that it
 // sent to or created: 0, or a cause from 6 to 16.
 #[unsafe(no_mangle)]
+#[tactic(auto, using(crate::specs::Numbers::laws))]
 pub extern "C" fn atlite_move(state: &mut [u32], actor: u8, kind: &mut u32, other: &mut u32) -> u32
     ensures value { result ≡ cause (move_call state.old actor).result }
     ensures state_after { state.new ≡ (move_call state.old actor).buffer }
@@ -47,6 +50,7 @@ pub extern "C" fn atlite_move(state: &mut [u32], actor: u8, kind: &mut u32, othe
 
 // Loads the table in the first 1,280 words of `table` into the first 16,384 of `state`: 0, or a cause, 6, 7 or 16.
 #[unsafe(no_mangle)]
+#[tactic(auto, using(crate::specs::Numbers::laws))]
 pub extern "C" fn atlite_load(table: &[u32], state: &mut [u32]) -> u32
     ensures value { result ≡ cause (load_call table.now state.old).result }
     ensures state_after { state.new ≡ (load_call table.now state.old).buffer }
@@ -58,6 +62,7 @@ pub extern "C" fn atlite_load(table: &[u32], state: &mut [u32]) -> u32
 // One move for each byte of `entries`, by the actor that it names, in the state in the first 16,384 words of `state`; how many were made
 // to `moves` and how many refused to `refusals`: 0, or a cause, 6 or 7.
 #[unsafe(no_mangle)]
+#[tactic(auto, using(crate::specs::Numbers::laws))]
 pub extern "C" fn atlite_run(
     state: &mut [u32],
     entries: &[u8],
@@ -76,6 +81,7 @@ pub extern "C" fn atlite_run(
 // Writes the listing of the state in the first 16,384 words of `state` in front of `text`, and its length to `bytes`: 0, or a cause, 6
 // or 7.
 #[unsafe(no_mangle)]
+#[tactic(auto, using(crate::specs::Numbers::laws))]
 pub extern "C" fn atlite_list(state: &[u32], text: &mut [u8], bytes: &mut usize) -> u32
     ensures value { result ≡ cause (list_call state.now text.old).result }
     ensures text_after { text.new ≡ (list_call state.now text.old).buffer }
