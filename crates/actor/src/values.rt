@@ -29,7 +29,7 @@ fn among(x: u32, n: usize, y: u32) -> bool
     n != 0 && (y == x % NAME_LIMIT || among(x / NAME_LIMIT, n - 1, y))
 }
 
-// Whether `x` is `n` different names.
+// Whether `x` is `n` different names. A recursion, as `among` is.
 #[tactic(auto, using(crate::specs::ValueLaws::names_laws))]
 pub fn names(x: u32, n: usize, owner: &Owner) -> bool
     ensures { result ≡ names_hold owner.now.words n x }

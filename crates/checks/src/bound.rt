@@ -99,7 +99,8 @@ fn scan_inside(
     e
 }
 
-// Whether variables are bound in the `left` lines at `at`. A definition's word is bound for the lines below it.
+// Whether variables are bound in the `left` lines at `at`. A definition's word is bound for the lines below it, so it is a recursion: the word is
+// unbound again when those are read.
 fn lines_bound(s: &[u64], at: usize, left: usize, level: u16, last: &mut [u16; 4096]) -> bool
     requires { (length s.now ≤ 4096) × (at ≤ 4096) × (level ≤ at) }
     ensures lines_bound { LinesBound s.now (length s.now) at left level last.old result }

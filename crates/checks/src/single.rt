@@ -83,7 +83,7 @@ fn walk(s: &[u64], at: usize, n: usize, kept: u64) -> Option<usize>
     walk(s, e, n - 1, noted(h, kept))
 }
 
-// Whether names are single in the `left` lines at `at`.
+// Whether names are single in the `left` lines at `at`. A recursion, since what it answers is said of the lines that are left.
 fn lines_single(s: &[u64], at: usize, left: usize) -> bool
     requires { (length s.now ≤ 4096) × (at ≤ 4096) }
     ensures { LinesSingle s.now (length s.now) at left result }

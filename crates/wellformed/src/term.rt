@@ -116,7 +116,7 @@ impl Terms<'_> {
     }
 
     // The end of the term at `at`. One word a turn, and its operands are among the terms still to come. Only a word that changes the scope is
-    // read by a call.
+    // read by a call, behind which the place goes on: no `for` goes over places that jump.
     #[cycle(terms)]
     fn term(&self, at: usize, scope: &mut [u16; 128], e: Place) -> Option<usize>
         requires { (at ≤ 4096) × (e.level ≤ at + 1) }

@@ -72,7 +72,7 @@ fn field(s: &Source, at: usize, out: &mut [u64; 4096], o: usize, b: usize) -> Op
     fields(s, e.at, out, e.out, b + 1)
 }
 
-// Methods, in the same way.
+// Methods, in the same way. They are functions of their own, since what they promise names another reader for the list, for its parts and for its end.
 #[cycle(expressions)]
 #[tactic(auto, using(crate::specs::Cycle::methods_laws))]
 fn methods(s: &Source, at: usize, out: &mut [u64; 4096], o: usize, b: usize) -> Option<Listed>
