@@ -1,56 +1,32 @@
 // Runs of words and bytes, compared and copied; `wide` has the numbers of the scratch form of a script.
 #![tactic(auto)]
 
-ghost use Rattle.std.specs.Prelude.{◌≡◌, ◌+◌, ◌≤◌, eqb, length, take};
+ghost use Rattle.std.specs.Prelude.{◌≡◌, ◌+◌, ◌≤◌, eqb, length};
 ghost use Rattle.std.proofs.lemmas.List.Edits.{sets};
 ghost use Rattle.layout.specs.Pack.{zeros};
 ghost use Rattle.words.specs.Runs.{Still, Same, Copied};
 
 pub mod wide;
 
-// One more pair of words.
-fn still(same: bool, x: u32, y: u32) -> bool
-    ensures { Still same x y result }
-{
-    if x == y {
-        return same;
-    }
-    false
-}
-
-// Whether `a` and `b` begin with the same `n` words. It looks at all of them, so that it runs on many at a time: `==` stops at the first that
-// differ, and with it the loop no longer does.
-pub fn same_words(a: &[u32], b: &[u32], n: usize) -> bool
-    requires { (n ≤ length a.now) × (n ≤ length b.now) }
-    ensures { Same (take n a.now) (take n b.now) result }
-{
-    let mut same = true;
-    let mut i = 0;
-    while i < n {
-        same = still(same, a[i], b[i]);
-        i += 1;
-    }
-    same
-}
-
 // The bits that `x` or `y` has: none exactly when both are zero.
+#[tactic(auto, using(crate::specs::Runs::laws))]
 fn gathered(x: u32, y: u32) -> u32
     ensures { Still (eqb x 0) y 0 (eqb result 0) }
 {
     x | y
 }
 
-// Whether every word of `w` is zero. It looks at all of them, as above, and compares once, in the end: `all` stops at the first that is not.
+// Whether every word of `w` is zero. It looks at all of them and compares once, in the end, so that it runs on many at a time: `all` stops at the first
+// that is not zero, and with it the loop no longer does.
+#[tactic(auto, using(crate::specs::Runs::laws))]
 pub fn all_zero(w: &[u32]) -> bool
     ensures { Same w.now (zeros (length w.now)) result }
 {
-    let mut x = 0;
-    let mut i = 0;
-    while i < w.len() {
-        x = gathered(x, w[i]);
-        i += 1;
+    let mut bits = 0;
+    for x in w {
+        bits = gathered(bits, *x);
     }
-    x == 0
+    bits == 0
 }
 
 // Puts the first `n` bytes of `from` in front of `to`.
