@@ -48,7 +48,7 @@ fn show_fields(t: &[u32], n: u32, x: u32, at: usize, text: &mut Writer<'_>)
     }
 }
 
-// A bracket and the kind of an entity. The words say what the layout's numbers are, so these have no names.
+// A bracket and the kind of an entity.
 fn put_kind(k: u32, text: &mut Writer<'_>)
     ensures { Put text.old (kind_in k) text.new }
 {

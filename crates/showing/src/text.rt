@@ -22,7 +22,7 @@ fn word(t: &[u32], i: usize) -> u32
     }
 }
 
-// The words that no dictionary has.
+// The words that no dictionary has. Their numbers have no other names: this table is what names them.
 fn known(x: u32) -> &'static [u8]
     ensures { result.now ≡ known_in x }
 {
@@ -38,7 +38,7 @@ fn known(x: u32) -> &'static [u8]
     }
 }
 
-// The word of kind `k`, or nothing where it has none. The numbers stay: this table is what names them, and a constant would repeat each word.
+// The word of kind `k`, or nothing where it has none.
 fn keyword(k: u32) -> &'static [u8]
     ensures { result.now ≡ word_of k }
 {
