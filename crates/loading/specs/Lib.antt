@@ -2,6 +2,7 @@
 pub mod Expanding
 -- words put where 4,096 have room, and tests of a number in a range
 pub mod Writer
+pub mod Put
 pub mod PutLaws
 pub mod Ranges
 -- the words of an expansion, and the code that puts them
