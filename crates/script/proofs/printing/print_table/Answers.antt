@@ -2,5 +2,5 @@
 use Rattle.script.specs.Reprinting.{laws}
 use Rattle.script.proofs.printing.print_table.Goals as goal
 
-pub returns-in-Bad : goal.returns-in-Bad
-returns-in-Bad c = search laws
+pub returns-in-None : goal.returns-in-None
+returns-in-None c = search laws
