@@ -149,13 +149,14 @@ fn follow(entry: &[u8], start: &mut [u32; STATE], expected: &mut [u32; STATE])
         b'e' => set_word(expected, i, v),
         b'f' => repeat(expected, i, low),
         _ => {
-            *start = [0; STATE];
-            *expected = [0; STATE];
+            start.fill(0);
+            expected.fill(0);
         }
     }
 }
 
-// Goes through the records. A record that is cut short ends them, and agrees with nothing.
+// Goes through the records. A record that is cut short ends them, and agrees with nothing. The words are copied by a call: an array that is assigned has
+// a copy on the stack in each of these calls.
 fn go_through(
     rt: &impl Print,
     records: &[u8],
@@ -174,7 +175,7 @@ fn go_through(
     }
     if records[0] == b'm' {
         let u = counted(t, agrees(rt, &records[..RECORD], start, expected)?);
-        *expected = *start;
+        expected.copy_from_slice(start);
         return go_through(rt, &records[RECORD..], start, expected, u);
     }
     follow(&records[..RECORD], start, expected);
