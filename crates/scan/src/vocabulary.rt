@@ -23,7 +23,9 @@ pub struct Vocabulary {
 
 impl Vocabulary {
     // None so far.
-    pub fn new() -> Vocabulary {
+    pub fn new() -> Vocabulary
+        ensures { (result.count ≡ 0) × (result.apply ≡ false) }
+    {
         Vocabulary {
             low: [0; 2048],
             high: [0; 2048],
