@@ -1,5 +1,5 @@
 // All of a part, region by region.
-ghost use Rattle.std.specs.Prelude.{◌≡◌, true, false, ◌≤◌, length, take, drop};
+ghost use Rattle.std.specs.Prelude.{◌≡◌, true, false, ◌≤◌, ◌<◌, length, take, drop};
 ghost use Rattle.layout.specs.Numbers.{expr_at, expr_size, bodies_size, bodies_at, part_size};
 ghost use Rattle.actor.specs.Tests.{counts_hold, head_holds, expr_holds, inbox_holds, waiting_holds, end_holds, heap_holds, rest_holds};
 ghost use Rattle.actor.specs.Bodies.{methods_reach, expr_reach};
@@ -25,6 +25,8 @@ pub struct Part<'a> {
     pub words: &'a [u32],
     pub owner: Owner<'a>,
     ghost headed: { Heads words.now },
+    ghost few: { owner.words ≤ 64 },
+    ghost known: { owner.actor < 4 },
 }
 
 // The counts of a part: entities of both series, messages of both kinds, words of the expression.
@@ -129,7 +131,7 @@ impl Part<'_> {
 // that are not an actor's to the last zero.
 #[tactic(auto, using(crate::specs::PartLaws::actor_laws))]
 pub fn is_actor(part: &[u32], owner: &Owner) -> bool
-    requires { length part.now ≡ part_size }
+    requires { (length part.now ≡ part_size) × (owner.now.words ≤ 64) × (owner.now.actor < 4) }
     ensures { Decides (IsPart owner.now.kinds.now owner.now.actor owner.now.words part.now) result }
 {
     if !head(part) {

@@ -3,7 +3,7 @@
 // What a literal's fields or methods are told by is their signature, with which their headers begin: a name, and of a method the number of its
 // parameters. Those of a list are kept in one number, nine bits each, the last one lowest. There are at most four, so that one is compared
 // with three.
-ghost use Rattle.std.specs.Prelude.{◌≡◌, ◌&&◌, ◌/◌, ◌%◌, leb};
+ghost use Rattle.std.specs.Prelude.{◌≡◌, ◌&&◌, ◌/◌, ◌%◌, ◌≤◌, leb};
 ghost use Rattle.atlite.specs.Valid.{parameters};
 ghost use Rattle.layout.specs.Numbers.{tagged_limit, digit_limit};
 ghost use Rattle.layout_laws.specs.LastThree.{fresh, noted as noted_in};
@@ -64,6 +64,7 @@ impl Owner<'_> {
     // Whether the word `h` is the header of a field with a new name.
     #[tactic(auto, using(crate::specs::HeaderLaws::field_laws))]
     pub fn field_header(&self, h: u32, kept: u64) -> bool
+        requires { self.now.words ≤ 64 }
         ensures { FieldHeader self.now.words kept h result }
     {
         h / PAYLOAD == 128 && self.is_name(h % PAYLOAD) && is_fresh(h, kept)
@@ -88,6 +89,7 @@ impl Owner<'_> {
     // Whether the places of the header `h` of a method are different variables, as many as it counts.
     #[tactic(auto, using(crate::specs::HeaderLaws::param_laws))]
     fn has_parameters(&self, h: u32) -> bool
+        requires { self.now.words ≤ 64 }
         ensures { result ≡ within (parameters self.now.words) (params_at h) }
     {
         let x = h / TAGGED_LIMIT % NAME_LIMIT;
@@ -104,6 +106,7 @@ impl Owner<'_> {
     // Whether the word `h` is the header of a method with a new signature and with parameters.
     #[tactic(auto, using(crate::specs::HeaderLaws::method_laws))]
     pub fn method_header(&self, h: u32, kept: u64) -> bool
+        requires { self.now.words ≤ 64 }
         ensures { MethodHeader self.now.words kept h result }
     {
         h / METHOD_UNIT == 3

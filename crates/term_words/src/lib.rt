@@ -2,20 +2,17 @@
 // where a word stands.
 #![tactic(auto)]
 
-ghost use Rattle.std.specs.Prelude.{◌≤◌, ◌<◌};
-
 use layout::STATE_SLOTS;
 
 pub mod header;
 pub mod scopes;
 pub mod word;
 
-// Whose words are judged: the actor, how many words the dictionary of its state has, and the kinds of all entities of that state.
+// Whose words are judged: the actor, how many words the dictionary of its state has, and the kinds of all entities of that state. Of
+// the actor nothing is asked, and of the number of words only where names are read, which have seven bits.
 #[derive(Clone, Copy)]
 pub struct Owner<'a> {
     pub actor: u32,
     pub words: u32,
     pub kinds: &'a [u8; STATE_SLOTS],
-    ghost known: { actor < 4 },
-    ghost few: { words ≤ 64 },
 }

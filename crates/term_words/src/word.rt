@@ -1,5 +1,5 @@
 // What one word says: names, references, and the name of a call.
-ghost use Rattle.std.specs.Prelude.{◌≡◌, ◌&&◌, ◌%◌, leb};
+ghost use Rattle.std.specs.Prelude.{◌≡◌, ◌&&◌, ◌%◌, ◌≤◌, leb};
 ghost use Rattle.atlite.specs.Valid.{is_name, is_variable};
 ghost use Rattle.layout.specs.Numbers.{payload};
 ghost use Rattle.decoding.specs.TermReading.{ref_in};
@@ -36,7 +36,7 @@ impl Owner<'_> {
     pub fn is_name(&self, x: u32) -> bool
         ensures { result ≡ is_name self.now.words x }
     {
-        7 <= x && x < 8 + self.words
+        7 <= x && u64::from(x) < 8 + u64::from(self.words)
     }
 
     // A variable or a parameter, of which `this` is none.
@@ -44,7 +44,7 @@ impl Owner<'_> {
     pub fn is_variable(&self, x: u32) -> bool
         ensures { result ≡ is_variable self.now.words x }
     {
-        0 < x && x < 8 + self.words
+        0 < x && u64::from(x) < 8 + u64::from(self.words)
     }
 
     // The kind of what the payload `q` of a reference names, if that is there.
@@ -85,6 +85,7 @@ impl Owner<'_> {
 
     // The name and the number of arguments in the word `h` of a call.
     pub fn call_name(&self, h: u32) -> bool
+        requires { self.now.words ≤ 64 }
         ensures { result ≡ call_in self.now.words (h % payload) }
     {
         let p = h % PAYLOAD;
@@ -99,6 +100,7 @@ impl Owner<'_> {
 
     // The name and the number of arguments in the word `h` of a send.
     pub fn message_name(&self, h: u32) -> bool
+        requires { self.now.words ≤ 64 }
         ensures { result ≡ send_in self.now.words (h % payload) }
     {
         let p = h % PAYLOAD;

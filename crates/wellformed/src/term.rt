@@ -19,13 +19,14 @@ pub struct Terms<'a> {
     pub words: &'a [u32],
     pub owner: Owner<'a>,
     ghost short: { length words.now ≤ bodies_size },
+    ghost few: { owner.words ≤ 64 },
 }
 
 // What holds where a term stands: whether it may refer, and the level of its scope.
 #[derive(Clone, Copy)]
-struct Place {
-    refs: bool,
-    level: u16,
+pub struct Context {
+    pub refs: bool,
+    pub level: u16,
 }
 
 // The empty place behind two names of three.
@@ -47,7 +48,7 @@ impl Terms<'_> {
         self.term(
             0,
             &mut scope,
-            Place {
+            Context {
                 refs: true,
                 level: 1,
             },
@@ -70,12 +71,12 @@ impl Terms<'_> {
         }
         let mut scope = [0u16; 128];
         scope[0] = 1;
-        self.methods_from(at, count, 0, &mut scope, Place { refs, level: 1 })
+        self.methods_from(at, count, 0, &mut scope, Context { refs, level: 1 })
     }
 
     // Whether the word `h` is a variable in scope, or a value.
     #[tactic(auto, using(crate::specs::FormLaws::leaf_laws))]
-    fn leaf(&self, h: u32, scope: &[u16; 128], e: Place) -> bool
+    fn leaf(&self, h: u32, scope: &[u16; 128], e: Context) -> bool
         requires { h < 7 * payload }
         ensures { Leaf self.now.owner.words (holds e.refs self.now.owner.kinds.now self.now.owner.actor) scope.now e.level h result }
     {
@@ -118,7 +119,7 @@ impl Terms<'_> {
     // The end of the term at `at`. One word a turn, and its operands are among the terms still to come. Only a word that changes the scope is
     // read by a call, behind which the place goes on: no `for` goes over places that jump.
     #[cycle(terms)]
-    fn term(&self, at: usize, scope: &mut [u16; 128], e: Place) -> Option<usize>
+    pub fn term(&self, at: usize, scope: &mut [u16; 128], e: Context) -> Option<usize>
         requires { (at ≤ 4096) × (e.level ≤ at + 1) }
         ensures term_ends { TermEnds self.now.owner.words (holds e.refs self.now.owner.kinds.now self.now.owner.actor) scope.old e.level self.now.words.now at result }
         ensures kept { Kept scope.old scope.new }
@@ -150,7 +151,7 @@ impl Terms<'_> {
 
     // The end of a term whose word `h` stands before `at` and is no operator: it binds names, is a literal, or is none at all.
     #[cycle(terms)]
-    fn form(&self, at: usize, h: u32, scope: &mut [u16; 128], e: Place) -> Option<usize>
+    fn form(&self, at: usize, h: u32, scope: &mut [u16; 128], e: Context) -> Option<usize>
         requires bounds { (at ≤ 4096) × (e.level ≤ at) }
         requires closed { Closed self.now.owner.words h }
         ensures form_ends { FormEnds self.now.owner.words (holds e.refs self.now.owner.kinds.now self.now.owner.actor) scope.old e.level self.now.words.now (h / payload) (h % payload) at result }
@@ -168,7 +169,7 @@ impl Terms<'_> {
 
     // The end of the term at `at` where the three names in `names` are bound.
     #[cycle(terms)]
-    fn inside(&self, at: usize, names: u32, scope: &mut [u16; 128], e: Place) -> Option<usize>
+    fn inside(&self, at: usize, names: u32, scope: &mut [u16; 128], e: Context) -> Option<usize>
         requires { (at ≤ 4096) × (e.level ≤ at + 1) }
         ensures term_ends { TermEnds self.now.owner.words (holds e.refs self.now.owner.kinds.now self.now.owner.actor) (bound scope.old e.level names) e.level self.now.words.now at result }
         ensures kept { Kept scope.old scope.new }
@@ -182,7 +183,7 @@ impl Terms<'_> {
 
     // The end of a let of the word `x` whose terms are at `at`. Only the second sees it.
     #[cycle(terms)]
-    fn let_in(&self, at: usize, x: u32, scope: &mut [u16; 128], e: Place) -> Option<usize>
+    fn let_in(&self, at: usize, x: u32, scope: &mut [u16; 128], e: Context) -> Option<usize>
         requires { (at ≤ 4096) × (e.level ≤ at + 1) }
         ensures form_ends { FormEnds self.now.owner.words (holds e.refs self.now.owner.kinds.now self.now.owner.actor) scope.old e.level self.now.words.now 11 x at result }
         ensures kept { Kept scope.old scope.new }
@@ -200,7 +201,7 @@ impl Terms<'_> {
 
     // The end of a future of the two words in `p` whose term is at `at`.
     #[cycle(terms)]
-    fn future(&self, at: usize, p: u32, scope: &mut [u16; 128], e: Place) -> Option<usize>
+    fn future(&self, at: usize, p: u32, scope: &mut [u16; 128], e: Context) -> Option<usize>
         requires { (at ≤ 4096) × (e.level ≤ at + 1) × (p < payload) }
         ensures form_ends { FormEnds self.now.owner.words (holds e.refs self.now.owner.kinds.now self.now.owner.actor) scope.old e.level self.now.words.now 12 p at result }
         ensures kept { Kept scope.old scope.new }
@@ -214,7 +215,7 @@ impl Terms<'_> {
 
     // The end of a literal of the word `h` whose fields and methods are at `at`.
     #[cycle(terms)]
-    fn literal(&self, at: usize, h: u32, scope: &mut [u16; 128], e: Place) -> Option<usize>
+    fn literal(&self, at: usize, h: u32, scope: &mut [u16; 128], e: Context) -> Option<usize>
         requires { (at ≤ 4096) × (e.level ≤ at) }
         ensures literal_ends { LiteralEnds self.now.owner.words (holds e.refs self.now.owner.kinds.now self.now.owner.actor) scope.old e.level self.now.words.now h at result }
         ensures kept { Kept scope.old scope.new }
@@ -229,7 +230,7 @@ impl Terms<'_> {
         let n = (p % DIGIT) as usize;
         let m = (p / DIGIT % DIGIT) as usize;
         let old = scope::swap(scope, 0, level);
-        let r = self.parts(at, n, m, scope, Place { refs, level });
+        let r = self.parts(at, n, m, scope, Context { refs, level });
         scope::swap(scope, 0, old);
         r
     }
@@ -242,7 +243,7 @@ impl Terms<'_> {
         n: usize,
         m: usize,
         scope: &mut [u16; 128],
-        e: Place,
+        e: Context,
     ) -> Option<usize>
         requires { (at ≤ 4096) × (e.level ≤ at + 1) × (n ≤ 8) × (m ≤ 8) }
         ensures parts_end { PartsEnd self.now.owner.words (holds e.refs self.now.owner.kinds.now self.now.owner.actor) scope.old e.level self.now.words.now n m at result }
@@ -261,7 +262,7 @@ impl Terms<'_> {
         n: usize,
         kept: u64,
         scope: &mut [u16; 128],
-        e: Place,
+        e: Context,
     ) -> Option<usize>
         requires { (at ≤ 4096) × (e.level ≤ at + 1) × (n ≤ 8) }
         ensures fields_end { FieldsEnd self.now.owner.words (holds e.refs self.now.owner.kinds.now self.now.owner.actor) scope.old e.level self.now.words.now kept n at result }
@@ -284,13 +285,13 @@ impl Terms<'_> {
 
     // The same of methods. One function for both would have two arguments more, for the test of a header and for what stands behind it.
     #[cycle(terms)]
-    fn methods_from(
+    pub fn methods_from(
         &self,
         at: usize,
         n: usize,
         kept: u64,
         scope: &mut [u16; 128],
-        e: Place,
+        e: Context,
     ) -> Option<usize>
         requires { (at ≤ 4096) × (e.level ≤ at + 1) × (n ≤ 8) }
         ensures methods_end { MethodsEnd self.now.owner.words (holds e.refs self.now.owner.kinds.now self.now.owner.actor) scope.old e.level self.now.words.now kept n at result }
