@@ -12,6 +12,7 @@ use Rattle.atlite_laws.specs.Facts.{same_true, same-false-sym}
 use Rattle.scan.specs.Runs.{Run, Starts, index}
 use Rattle.scan.specs.Keywords.{index-le, slice-take}
 use Rattle.scan.specs.WordNumbers.{low_part, high_part, Holds, Placed}
+use Rattle.scan.specs.WordNumberLaws.{word-letters, word-few}
 use Rattle.scan.specs.DictionaryLaws.{word-nonempty, word-is, not-apply, word_room}
 use Rattle.words.specs.Wide.{wide_limit}
 use Rattle.lexemes.specs.declared.names.Name.{Name}
@@ -187,4 +188,4 @@ module _ (t : Bytes) (at : ℕ) where
   unfolding SpacedName Named
   spaced-within x s = s.within
 
-pub ruleset laws = (rules, word-is, not-apply, word_room, word_none, word-apply, cut-word, place-fits, place_found, place-missing, starts-room, spaced-some, spaced-none)
+pub ruleset laws = (rules, word-letters, word-few, word-is, not-apply, word_room, word_none, word-apply, cut-word, place-fits, place_found, place-missing, starts-room, spaced-some, spaced-none)

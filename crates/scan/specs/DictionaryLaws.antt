@@ -18,6 +18,7 @@ use Rattle.reading.specs.Dictionary.{words-run}
 use Rattle.scan.specs.Runs.{Run}
 use Rattle.scan.specs.Keywords.{among_none, among-some, index-le, run-all, slice-drop, slice-take}
 use Rattle.scan.specs.WordNumbers.{low_part, high_part, Holds, Placed, Found, Noted, Scanning, Dictionary}
+use Rattle.scan.specs.WordNumberLaws.{word-letters, word-few}
 
 -- ---- the definition's steps
 module _ (ws : List Bytes) (w : Bytes) where
@@ -274,4 +275,4 @@ module _ (t : Bytes) (low high : List ℕ) where
         within = omega arith;
       }
 
-pub ruleset laws = (rules, note-none, note-apply, word-is, not-apply, word_room, note-known, note-new, cut-word, cut-other, cut-noted, scanning-none, scanned, scanning-more)
+pub ruleset laws = (rules, word-letters, word-few, note-none, note-apply, word-is, not-apply, word_room, note-known, note-new, cut-word, cut-other, cut-noted, scanning-none, scanned, scanning-more)

@@ -99,30 +99,33 @@ module _ (w : Bytes) where
       let g : n < 256 ^ 8 = rw l at f in
       omega (arith, eight w k)
 
-  module _ (u : is_word w ≡ true) where
-    few : length w ≤ 12
-    unfolding is_word
-    few =
-        let p = and₂ (letter_first w && all in_word w && leb (length w) 12) (not (among reserved w)) u in
-        leb-true (length w) 12 (and₂ (letter_first w && all in_word w) (leb (length w) 12) p.0).1
+  pub word-letters : is_word w ≡ true → all in_word w ≡ true
+  word-letters u = (word-parts w u).1
 
+  pub word-few : is_word w ≡ true → length w ≤ 12
+  unfolding is_word
+  word-few u =
+      let p = and₂ (letter_first w && all in_word w && leb (length w) 12) (not (among reserved w)) u in
+      leb-true (length w) 12 (and₂ (letter_first w && all in_word w) (leb (length w) 12) p.0).1
+
+  module _ (u : all in_word w ≡ true) (few : length w ≤ 12) where
     pub high_fits : (n : ℕ) → 8 < length w → n < 256 ^ length (take (length w - 8) (drop 8 w)) → Fits w32 n
-    high_fits n k f = let m = few in record { fits = lt_of_lt_of_le f (pow-le-pow_right {n = 256} (omega arith) {j = 4} (omega (arith, length-drop 8 w, length-take (length w - 8) (drop 8 w)))) }
+    high_fits n k f = record { fits = lt_of_lt_of_le f (pow-le-pow_right {n = 256} (omega arith) {j = 4} (omega (arith, few, length-drop 8 w, length-take (length w - 8) (drop 8 w)))) }
 
     pub high-few : length (take (length w - 8) (drop 8 w)) ≤ 8
-    high-few = let m = few in omega (arith, length-drop 8 w, length-take (length w - 8) (drop 8 w))
+    high-few = omega (arith, few, length-drop 8 w, length-take (length w - 8) (drop 8 w))
 
     pub high-short : length w ≤ 8 → 0 ≡ high_part w
     unfolding high_part
     high-short k =
-        let b = lt_of_lt_of_le (number_bound w (word-parts w u).1) (pow-le-pow_right {n = 256} (omega arith) {j = 8} k) in
+        let b = lt_of_lt_of_le (number_bound w u) (pow-le-pow_right {n = 256} (omega arith) {j = 8} k) in
         omega arith
 
     pub high-long : (n : ℕ) → 8 < length w → n ≡ bytes_number (take (length w - 8) (drop 8 w)) → n ≡ high_part w
     unfolding high_part
     high-long n k i =
         let l : length (take 8 w) ≡ 8 = length-take-le 8 w (omega arith) in
-        let a = all_left (take 8 w) (drop 8 w) (ap (all in_word) (take-append-drop 8 w) ∙ (word-parts w u).1) in
+        let a = all_left (take 8 w) (drop 8 w) (ap (all in_word) (take-append-drop 8 w) ∙ u) in
         let b : bytes_number (take 8 w) < 256 ^ 8 = rw l at (number_bound (take 8 w) a) in
         let z = rw (take_all (length w - 8) (drop 8 w) (omega (arith, length-drop 8 w))) at i in
         omega (arith, eight w k)

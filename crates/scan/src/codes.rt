@@ -1,6 +1,7 @@
 // The numbers of words.
 ghost use Rattle.std.specs.Prelude.{◌≡◌, true, ◌^◌, ◌≤◌, ◌<◌, length};
-ghost use Rattle.atlite.specs.Lexicon.{is_word};
+ghost use Rattle.atlite.specs.Base.{all};
+ghost use Rattle.atlite.specs.Lexicon.{in_word};
 ghost use Rattle.layout.specs.Layout.{bytes_number};
 ghost use Rattle.scan.specs.WordNumbers.{low_part, high_part};
 
@@ -30,7 +31,7 @@ pub fn low_part(word: &[u8]) -> u64
 
 #[tactic(auto, using(crate::specs::WordNumberLaws::laws))]
 pub fn high_part(word: &[u8]) -> u32
-    requires { is_word word.now ≡ true }
+    requires { (all in_word word.now ≡ true) × (length word.now ≤ 12) }
     ensures { result ≡ high_part word.now }
 {
     if word.len() <= 8 {

@@ -11,6 +11,7 @@ pub mod kinds;
 mod vocabulary;
 
 pub use bytes::{is_digit, named, run_end, starts};
+pub use codes::{high_part, low_part};
 pub use keywords::{is_word, keyword};
 pub use vocabulary::Vocabulary;
 

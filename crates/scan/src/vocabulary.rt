@@ -1,8 +1,8 @@
 // The dictionary of a text: its words' numbers in two parts, in the order in which they are found.
-ghost use Rattle.std.specs.Prelude.{◌≡◌, ◌≤◌, ◌<◌, true, false};
+ghost use Rattle.std.specs.Prelude.{◌≡◌, ◌≤◌, ◌<◌, true, false, length};
 ghost use Rattle.std.proofs.Math.Seq.{slice};
-ghost use Rattle.atlite.specs.Base.{bytes, same_bytes};
-ghost use Rattle.atlite.specs.Lexicon.{is_word};
+ghost use Rattle.atlite.specs.Base.{all, bytes, same_bytes};
+ghost use Rattle.atlite.specs.Lexicon.{in_word, is_word};
 ghost use Rattle.scan.specs.Runs.{Run};
 ghost use Rattle.scan.specs.WordNumbers.{low_part, high_part, Noted, Placed};
 
@@ -34,9 +34,9 @@ impl Vocabulary {
         }
     }
 
-    // The place of a word.
+    // The place of a word, by its two parts, which letters and digits have.
     pub fn find(&self, word: &[u8]) -> Option<usize>
-        requires { is_word word.now ≡ true }
+        requires { (all in_word word.now ≡ true) × (length word.now ≤ 12) }
         ensures { Placed self.now.low self.now.high self.now.count (low_part word.now) (high_part word.now) result }
     {
         self.place(low_part(word), high_part(word))
@@ -44,7 +44,7 @@ impl Vocabulary {
 
     // The place of the word with the parts `low` and `high`.
     #[tactic(auto, using(crate::specs::WordNumberLaws::laws))]
-    fn place(&self, low: u64, high: u32) -> Option<usize>
+    pub fn place(&self, low: u64, high: u32) -> Option<usize>
         ensures { Placed self.now.low self.now.high self.now.count low high result }
     {
         for i in 0..self.count {
