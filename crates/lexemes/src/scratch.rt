@@ -29,8 +29,8 @@ pub struct Listed {
 }
 
 // Stores `w` at `o`, behind which the words go on at `p`.
-pub fn put(out: &mut [u64; 4096], o: usize, w: u64, i: usize, p: usize) -> Option<Step>
-    requires { o < 4096 }
+pub fn put(out: &mut [u64], o: usize, w: u64, i: usize, p: usize) -> Option<Step>
+    requires { o < length out.old }
     ensures { (result ≡ stepped i p) × (out.new ≡ set out.old o w) }
 {
     out[o] = w;
