@@ -11,6 +11,7 @@ use atlite::Cause;
 use layout::TABLE;
 
 // Puts the text `front` in front of `text`, if it fits.
+#[tactic(auto, unfolding(words::specs::Runs::Copied))]
 fn give(front: &[u8], text: &mut [u8]) -> Result<usize, Cause>
     ensures { Given front.now text.old result text.new }
 {
@@ -18,7 +19,7 @@ fn give(front: &[u8], text: &mut [u8]) -> Result<usize, Cause>
     if text.len() < n {
         return Err(Cause::ShortBuffer);
     }
-    text[..n].copy_from_slice(front);
+    words::copy_bytes(front, n, text);
     Ok(n)
 }
 
