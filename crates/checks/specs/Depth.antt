@@ -9,7 +9,7 @@ use Rattle.atlite.specs.Reader.{depth_from, depth}
 unfoldable pub opened_by : ℕ → ℕ → ℕ
 opened_by b n = if eqb b 40 then n + 1 else if eqb b 41 then n - 1 else n
 
-unfoldable most_by : ℕ → ℕ → ℕ → ℕ
+unfoldable pub most_by : ℕ → ℕ → ℕ → ℕ
 most_by b n m = if eqb b 40 then max m (n + 1) else m
 
 pub record Opened (b n r : ℕ) : Type 0 where

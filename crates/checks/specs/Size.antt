@@ -15,10 +15,10 @@ use Rattle.layout_laws.specs.Results.{done-same, bind_done}
 use Rattle.checks.specs.LinesAt.{Stands}
 use Rattle.words.specs.Wide.{wide_kinds, wide, wide_method, wide_src, wide_srcs, wide_fields, wide_methods, wide_line, wide_lines}
 
-unfoldable is_node : ℕ → ℕ
+unfoldable pub is_node : ℕ → ℕ
 is_node h = cond (ltb (h % wide_kinds) field_kind) 1 0
 
-unfoldable nodes_in : List ℕ → ℕ
+unfoldable pub nodes_in : List ℕ → ℕ
 nodes_in [] = 0
 nodes_in (h ∷ w) = is_node h + nodes_in w
 

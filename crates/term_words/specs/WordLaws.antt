@@ -261,11 +261,11 @@ module _ (w : ℕ) (l : w ≤ 64) where
     unfolding send_in name_of sendable
     send-two-way e h = h ∙ rw e (name-within (λ m. sendable w m (p / name_limit / tag_limit)) (p % name_limit) (two_way (p % name_limit)) (leb 1 (p / name_limit / tag_limit) && leb (p / name_limit / tag_limit) 4) (and_assoc (is_name w (p % name_limit)) (leb 1 (p / name_limit / tag_limit)) (leb (p / name_limit / tag_limit) 4)))
 
-    send-resolve : p / name_limit % tag_limit ≡ 2 → r ≡ lone (p % name_limit) (p / name_limit / tag_limit) → r ≡ send_in w p
+    pub send-resolve : p / name_limit % tag_limit ≡ 2 → r ≡ lone (p % name_limit) (p / name_limit / tag_limit) → r ≡ send_in w p
     unfolding send_in name_of sendable
     send-resolve e h = h ∙ rw e (lone-within (λ m. sendable w m (p / name_limit / tag_limit)) (p % name_limit) (p / name_limit / tag_limit) resolve refl)
 
-    send-register : (p / name_limit % tag_limit ≡ 0 → ⊥) → (p / name_limit % tag_limit ≡ 1 → ⊥) → (p / name_limit % tag_limit ≡ 2 → ⊥) → r ≡ lone (p % name_limit) (p / name_limit / tag_limit) → r ≡ send_in w p
+    pub send-register : (p / name_limit % tag_limit ≡ 0 → ⊥) → (p / name_limit % tag_limit ≡ 1 → ⊥) → (p / name_limit % tag_limit ≡ 2 → ⊥) → r ≡ lone (p % name_limit) (p / name_limit / tag_limit) → r ≡ send_in w p
     unfolding send_in name_of sendable
     send-register i j k h =
         let e : p / name_limit % tag_limit ≡ 3 = omega arith in
