@@ -36,12 +36,13 @@ fn is_text(table: &[u32], front: &[u8]) -> bool
     }
 }
 
-// Cause 7, and what comes after it. The bytes `front` are the text of the table, if there is one.
+// Cause 7, and what comes after it. The first `n` bytes of `out` are the text of the table, if there is one; what stands behind them is none of it.
 #[tactic(auto, using(crate::specs::PrintContract::laws))]
-fn print_made(table: &[u32], front: &[u8], text: &mut [u8]) -> Result<usize, Cause>
-    requires { Front table.now front.now }
+fn print_made(table: &[u32], out: &[u8], n: usize, text: &mut [u8]) -> Result<usize, Cause>
+    requires { (n ≤ length out.now) × Front table.now (take n out.now) }
     ensures { Prints table.now text.old result text.new }
 {
+    let front = &out[..n];
     if !is_text(table, front) {
         return Err(Cause::Malformed);
     }
@@ -58,7 +59,7 @@ fn print_table(table: &[u32], text: &mut [u8]) -> Result<usize, Cause>
     }
     let mut out = [0u8; TEXT];
     match printer::print_words(table, &mut out) {
-        Some(n) => print_made(table, &out[..n], text),
+        Some(n) => print_made(table, &out, n, text),
         None => Err(Cause::Malformed),
     }
 }
