@@ -1,8 +1,8 @@
 -- The dictionary is found run by run: a run is noted as the definition notes it, and what is left of the text has the other
 -- words. Assumes nothing.
-use Rattle.std.specs.Prelude.{◌≡◌, Bool, ◌&&◌, ◌||◌, not, ℕ, suc, ◌+◌, ◌-◌, ◌≤◌, ◌<◌, ltb, leb, length, get_or, drop, set, if◌then◌else◌, take, Option, Some, None, is_some}
+use Rattle.std.specs.Prelude.{◌≡◌, Bool, ◌&&◌, ◌||◌, not, ℕ, suc, ◌+◌, ◌-◌, ◌≤◌, ◌<◌, ltb, length, get_or, drop, set, if◌then◌else◌, take, Option, Some, None, is_some}
 use Rattle.std.proofs.Math.Path.{refl, sym, ap, subst as transp}
-use Rattle.std.proofs.Common.{◌∙◌, arith, rules, ltb-true, ltb-false, leb-true, length-set, length-append, drop_of_length-le, get_or-set_same, get_or-set_other, drop-drop}
+use Rattle.std.proofs.Common.{◌∙◌, arith, rules, ltb-true, ltb-false, length-set, length-append, drop_of_length-le, get_or-set_same, get_or-set_other, drop-drop}
 use Rattle.std.proofs.Math.Bool.{true, false}
 use Rattle.std.proofs.lemmas.Bool.{false≢true}
 use mathlib.Core.List.{List, [], ◌∷◌, ◌++◌}
@@ -10,9 +10,9 @@ use Rattle.std.proofs.Math.ListN.{get_or-append}
 use Rattle.std.proofs.Math.Seq.{slice, get_or-append_seam, length-slice}
 use Rattle.atlite.specs.Base.{bytes, same_bytes, all}
 use Rattle.atlite.specs.Lexicon.{Bytes, in_word, is_word, among, noted, words_from, words_of, without_apply, dictionary, letter_first, is_letter, is_digit}
-use Rattle.atlite.specs.Keywords.{Keywords, reserved}
+use Rattle.atlite.specs.Keywords.{Keywords}
 use Rattle.atlite.specs.Reader.{item}
-use Rattle.atlite_laws.specs.Facts.{and₂, both₂, or-false, same_true, same_refl, same-false-sym, tests-append}
+use Rattle.atlite_laws.specs.Facts.{both₂, or-false, same_true, same_refl, same-false-sym, tests-append}
 use Rattle.reading.specs.Items.{Ends}
 use Rattle.reading.specs.Dictionary.{words-run}
 use Rattle.scan.specs.Runs.{Run}
@@ -151,11 +151,7 @@ unfolding bytes
 not-apply w r h k = sym h ∙ k
 
 pub word_room : (t : Bytes) (at e : ℕ) → Run t at e → is_word (slice at e t) ≡ true → e - at ≤ 12
-unfolding is_word
-word_room t at e h k =
-    let p = and₂ (letter_first (slice at e t) && all in_word (slice at e t) && leb (length (slice at e t)) 12) (not (among reserved (slice at e t))) k in
-    let q = leb-true (length (slice at e t)) 12 (and₂ (letter_first (slice at e t) && all in_word (slice at e t)) (leb (length (slice at e t)) 12) p.0).1 in
-    omega (arith, length-slice at e t h.within)
+word_room t at e h k = omega (arith, word-few (slice at e t) k, length-slice at e t h.within)
 
 module _ (w : Bytes) (low high : List ℕ) (n : ℕ) (a : Bool) (l h : ℕ) (u : is_word w ≡ true) (v : same_bytes (bytes "apply") w ≡ false)
     (lo : l ≡ low_part w) (hi : h ≡ high_part w) where
