@@ -1,47 +1,41 @@
 -- The number that a call returns, by what it came to: the same for each of the six, whatever else they answer. Assumes nothing.
 use Rattle.std.specs.Prelude.{ℕ, ◌≡◌, Ok, Err, refl}
+use Rattle.std.specs.Prelude as Code
+use Rattle.std.proofs.Common.{ap, ◌∙◌}
 use Rattle.atlite.specs.Answers.{Returned, move_answer, run_answer, read_answer, load_answer, print_answer, list_answer}
 use Rattle.atlite.specs.Causes.{number}
 use Rattle.atlite.specs.declared.Moved.{Moved}
-use Rattle.atlite.specs.declared.Moved.TheVariants as M
 use Rattle.atlite.specs.declared.Ran.{Ran}
 use Rattle.promises.specs.CallNumbers.{cause}
+use Rattle.refusals.specs.ReturnedAs.{returned_as, as_is, moved_as, ran_as, read-is, load-is, print-is, list-is, move-is, run-is}
 
-abbrev pub status_of : {A : Type 0} → Returned A → ℕ
-status_of (Ok x) = 0
-status_of (Err c) = number c
+abbrev pub status_of : {A C : Type 0} → (C → ℕ) → Code.Result A C → ℕ
+status_of why (Ok x) = 0
+status_of why (Err c) = why c
 
-pub read_status : (r : Returned (Unit {0})) → status_of r ≡ cause (read_answer r)
-unfolding read_answer cause
-read_status (Ok x) = refl
-read_status (Err c) = refl
+-- whatever a done call comes to, and whatever a refusal is told by
+pub status : {A B C : Type 0} (f : A → B) (why : C → ℕ) (r : Code.Result A C) → status_of why r ≡ cause (returned_as f why r)
+unfolding returned_as cause
+status f why (Ok x) = refl
+status f why (Err c) = refl
 
-pub load_status : (r : Returned (Unit {0})) → status_of r ≡ cause (load_answer r)
-unfolding load_answer cause
-load_status (Ok x) = refl
-load_status (Err c) = refl
+-- at a cause, by the answer of each call
+pub read_status : (r : Returned (Unit {0})) → status_of number r ≡ cause (read_answer r)
+read_status r = status as_is number r ∙ ap cause (read-is r)
 
-pub print_status : (r : Returned ℕ) → status_of r ≡ cause (print_answer r)
-unfolding print_answer cause
-print_status (Ok n) = refl
-print_status (Err c) = refl
+pub load_status : (r : Returned (Unit {0})) → status_of number r ≡ cause (load_answer r)
+load_status r = status as_is number r ∙ ap cause (load-is r)
 
-pub list_status : (r : Returned ℕ) → status_of r ≡ cause (list_answer r)
-unfolding list_answer cause
-list_status (Ok n) = refl
-list_status (Err c) = refl
+pub print_status : (r : Returned ℕ) → status_of number r ≡ cause (print_answer r)
+print_status r = status as_is number r ∙ ap cause (print-is r)
 
-pub move_status : (r : Returned Moved) → status_of r ≡ cause (move_answer r)
-unfolding move_answer cause
-move_status (Ok M.Inner) = refl
-move_status (Ok M.Taken) = refl
-move_status (Ok (M.Sent a)) = refl
-move_status (Ok (M.Created a)) = refl
-move_status (Err c) = refl
+pub list_status : (r : Returned ℕ) → status_of number r ≡ cause (list_answer r)
+list_status r = status as_is number r ∙ ap cause (list-is r)
 
-pub run_status : (r : Returned Ran) → status_of r ≡ cause (run_answer r)
-unfolding run_answer cause
-run_status (Ok r) = refl
-run_status (Err c) = refl
+pub move_status : (r : Returned Moved) → status_of number r ≡ cause (move_answer r)
+move_status r = status moved_as number r ∙ ap cause (move-is r)
 
-pub ruleset laws = (read_status, load_status, print_status, list_status, move_status, run_status)
+pub run_status : (r : Returned Ran) → status_of number r ≡ cause (run_answer r)
+run_status r = status ran_as number r ∙ ap cause (run-is r)
+
+pub ruleset laws = (status)

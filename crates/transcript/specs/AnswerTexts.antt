@@ -1,6 +1,7 @@
 -- The texts of the answers that calls give, and the space between two. Assumes nothing.
 use Prim.Native.Nat.{ℕ, zero, suc, ◌≤◌}
 use Rattle.std.specs.Prelude.{◌≡◌, Ok, Err, refl, List, [], ◌∷◌, length}
+use Rattle.std.specs.Prelude as Code
 use Rattle.std.proofs.Common.{subst as transp}
 use native.Mathlib.Omega.{arith}
 use Rattle.atlite.specs.Base.{Result, done, refused, bytes}
@@ -8,12 +9,13 @@ use Rattle.atlite.specs.Lexicon.{Bytes}
 use Rattle.atlite.specs.Move.{Answer}
 use Rattle.atlite.specs.Printer.{print_number}
 use Rattle.atlite.specs.Replay.{answer_text}
-use Rattle.atlite.specs.Answers.{Returned, move_answer}
 use Rattle.atlite.specs.declared.ActorNo.{ActorNo}
 use Rattle.atlite.specs.declared.Moved.{Moved}
+use Rattle.atlite.specs.Answers.{Returned, move_answer}
 use Rattle.atlite.specs.Causes.{number}
 use Rattle.atlite.specs.declared.Cause.{Cause}
 use Rattle.atlite.specs.declared.Moved.TheVariants as M
+use Rattle.refusals.specs.ReturnedAs.{returned_as, moved_as, move-is}
 use Rattle.showing.specs.declared.writer.Writer.{Writer}
 use Rattle.showing.specs.Put.{Put, put_none, then}
 use Rattle.transcript.specs.Digits.{byte-digits, cause-few}
@@ -55,23 +57,32 @@ module _ {a b : Writer} where
     pub number-put : Put a (print_number m) b → Told a (print_number n) b
     number-put g = transp (λ x. Told a (print_number x) b) e (record { put = g; few = omega (arith, byte-digits m (omega arith)) })
 
-  module _ {r : Returned Moved} {x : Moved} (e : r ≡ Ok x) where
-    pub inner-put : x ≡ M.Inner → Put a (73 ∷ []) b → Told a (told (move_answer r)) b
-    unfolding told move_answer answer_text bytes
-    inner-put f g = rw (e, f) (record { put = g; few = omega arith })
+  -- what is returned, r, tells its refusal c by the number why c
+  module _ {C : Type 0} (why : C → ℕ) {r : Code.Result Moved C} where
+    module _ {x : Moved} (e : r ≡ Ok x) where
+      pub inner-put : x ≡ M.Inner → Put a (73 ∷ []) b → Told a (told (returned_as moved_as why r)) b
+      unfolding told returned_as moved_as answer_text bytes
+      inner-put f g = rw (e, f) (record { put = g; few = omega arith })
 
-    pub taken-put : x ≡ M.Taken → Put a (84 ∷ []) b → Told a (told (move_answer r)) b
-    unfolding told move_answer answer_text bytes
-    taken-put f g = rw (e, f) (record { put = g; few = omega arith })
+      pub taken-put : x ≡ M.Taken → Put a (84 ∷ []) b → Told a (told (returned_as moved_as why r)) b
+      unfolding told returned_as moved_as answer_text bytes
+      taken-put f g = rw (e, f) (record { put = g; few = omega arith })
 
-    pub sent-put : (n : ActorNo) → x ≡ M.Sent n → Told a (83 ∷ print_number n.0) b → Told a (told (move_answer r)) b
-    unfolding told move_answer answer_text bytes
-    sent-put n f g = rw (e, f) g
+      pub sent-put : (n : ActorNo) → x ≡ M.Sent n → Told a (83 ∷ print_number n.0) b → Told a (told (returned_as moved_as why r)) b
+      unfolding told returned_as moved_as answer_text bytes
+      sent-put n f g = rw (e, f) g
 
-    pub created-put : (n : ActorNo) → x ≡ M.Created n → Told a (67 ∷ print_number n.0) b → Told a (told (move_answer r)) b
-    unfolding told move_answer answer_text bytes
-    created-put n f g = rw (e, f) g
+      pub created-put : (n : ActorNo) → x ≡ M.Created n → Told a (67 ∷ print_number n.0) b → Told a (told (returned_as moved_as why r)) b
+      unfolding told returned_as moved_as answer_text bytes
+      created-put n f g = rw (e, f) g
 
-  pub refused-put : {r : Returned Moved} (c : Cause) → r ≡ Err c → {m : ℕ} → m ≡ number c → Put a (print_number m) b → Told a (told (move_answer r)) b
-  unfolding told move_answer
-  refused-put c e f g = rw e (number-put f (omega (arith, cause-few c)) g)
+    pub refused-put : (c : C) → r ≡ Err c → {m : ℕ} → m ≡ why c → m ≤ 255 → Put a (print_number m) b → Told a (told (returned_as moved_as why r)) b
+    unfolding told returned_as
+    refused-put c e f h g = rw e (number-put f (omega arith) g)
+
+  -- the same where a refusal is told by its cause
+  pub told-by-cause : (r : Returned Moved) → Told a (told (returned_as moved_as number r)) b → Told a (told (move_answer r)) b
+  told-by-cause r g = transp (λ R. Told a (told R) b) (move-is r) g
+
+  pub cause-told : {r : Returned Moved} (c : Cause) → r ≡ Err c → {m : ℕ} → m ≡ number c → Put a (print_number m) b → Told a (told (move_answer r)) b
+  cause-told {r} c e f g = told-by-cause r (refused-put number c e f (omega (arith, cause-few c)) g)

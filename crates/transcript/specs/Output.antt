@@ -40,17 +40,20 @@ front-written s old new r h l g =
     record { count = n; fits = omega arith; text = g.is (omega arith) ∙ sets-eq s old 0 (omega arith) ∙ ap (λ k. s ++ drop k old) z }
 
 module _ {old : List ℕ} {a b : Writer} (room : listing_room ≤ length old) (e : a.out.now ≡ old) (z : a.len ≡ 0) where
-  pub refusal-written : {m n : Writer} (c : Cause) (k : ℕ) → k ≡ number c → Put a (bytes "(refused ") m → Put m (print_number k) n → Put n (bytes ")\n") b
-      → Written (shown (refused (number c))) old b.len b.out.now
+  pub refusal-written : {m n : Writer} (c k : ℕ) → k ≡ c → k ≤ 255 → Put a (bytes "(refused ") m → Put m (print_number k) n → Put n (bytes ")\n") b
+      → Written (shown (refused c)) old b.len b.out.now
   unfolding shown bytes
-  refusal-written c k f p q r =
+  refusal-written c k f d p q r =
       let x = bytes "(refused " in
       let y = bytes ")\n" in
       let t = x ++ (print_number k ++ y) in
-      let d : k ≤ 255 = omega (arith, cause-few c) in
       let l : length t ≤ listing_room = omega (arith, length-append x (print_number k ++ y), length-append (print_number k) y, byte-digits k d) in
       let w = front-written t old b.out.now b.len (omega arith) (omega arith) (from-start e z (then p (then q r))) in
       transp (λ k. Written (shown (refused k)) old b.len b.out.now) f (written_same _ t old b.len b.out.now (append_assoc x (print_number k) y) w)
+
+  pub cause-written : {m n : Writer} (c : Cause) (k : ℕ) → k ≡ number c → Put a (bytes "(refused ") m → Put m (print_number k) n → Put n (bytes ")\n") b
+      → Written (shown (refused (number c))) old b.len b.out.now
+  cause-written c k f = refusal-written (number c) k f (omega (arith, cause-few c))
 
   pub token-written : Put a (bytes "(bad token)\n") b → Written bad_token old b.len b.out.now
   unfolding bad_token bytes

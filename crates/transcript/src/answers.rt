@@ -1,11 +1,12 @@
 // The answer of a call, as it stands in the line of the answers.
 ghost use Rattle.std.specs.Prelude.{◌∷◌};
-ghost use Rattle.atlite.specs.Answers.{move_answer};
 ghost use Rattle.atlite.specs.Printer.{print_number};
+ghost use Rattle.refusals.specs.ReturnedAs.{returned_as, moved_as};
 ghost use Rattle.showing.specs.Put.{Put};
 ghost use Rattle.transcript.specs.AnswerTexts.{gap, told, Told};
 
-use atlite::{Cause, Moved};
+use atlite::Moved;
+use refusals::Refusal;
 use showing::Writer;
 
 // Between two answers stands a space: `i` were written before.
@@ -26,8 +27,8 @@ fn put_named(letter: u8, actor: u8, text: &mut Writer<'_>)
 }
 
 // What a call came to: a letter, with the actor that it names, or the number of the cause that refused it.
-pub fn put_answer(answer: Result<Moved, Cause>, text: &mut Writer<'_>)
-    ensures { Told text.old (told (move_answer answer)) text.new }
+pub fn put_answer<C: Refusal>(answer: Result<Moved, C>, text: &mut Writer<'_>)
+    ensures { Told text.old (told (returned_as moved_as C.number answer)) text.new }
 {
     match answer {
         Ok(Moved::Inner) => text.put(b'I'),

@@ -1,11 +1,11 @@
 // What the programs `loops` and `replay` write besides a listing: the line of a refusal, that of a bad token, and the answers of calls.
 //
-// Nothing here stands on the engine: each function puts bytes into a text for an answer or a cause that it is given.
+// Nothing here stands on the engine: each function puts bytes into a text for an answer or a cause that it is given. A refusal is told by its
+// cause, or by any byte (crate `refusals`).
 #![tactic(auto)]
 
 ghost use Rattle.std.specs.Prelude.{◌+◌, ◌≤◌, ◌≡◌, length};
 ghost use Rattle.atlite.specs.Base.{refused};
-ghost use Rattle.atlite.specs.Causes.{number};
 ghost use Rattle.atlite.specs.Program.{shown};
 ghost use Rattle.atlite.specs.Replay.{bad_token};
 ghost use Rattle.transcript.specs.Output.{listing_room, Written, Fronted};
@@ -13,16 +13,16 @@ ghost use Rattle.transcript.specs.Output.{listing_room, Written, Fronted};
 mod answers;
 
 pub use answers::{put_answer, put_space};
-use atlite::Cause;
+use refusals::Refusal;
 use showing::Writer;
 
 // The bytes that a listing may have.
 pub const LISTING: usize = 65536;
 
 // Writes the line of a refusal.
-pub fn refuse(cause: Cause, out: &mut [u8]) -> usize
+pub fn refuse<C: Refusal>(cause: C, out: &mut [u8]) -> usize
     requires { listing_room ≤ length out.old }
-    ensures { Written (shown (refused (number cause))) out.old result out.new }
+    ensures { Written (shown (refused (C.number cause))) out.old result out.new }
 {
     let mut text = Writer::new(out);
     text.put_bytes(b"(refused ");
@@ -50,3 +50,6 @@ pub fn put_head(head: &[u8], n: usize, out: &mut [u8]) -> usize
     out[..k].copy_from_slice(head);
     k + n
 }
+
+#[cfg(test)]
+mod tests;
