@@ -13,7 +13,7 @@ use crate::scratch::{Step, head, number_word, put};
 use crate::source::Source;
 use scan::kinds;
 
-impl Source<'_> {
+impl Source<'_, '_> {
     // An atom: a number, `null`, `this` or a word.
     #[tactic(auto, using(crate::specs::AtomLaws::laws))]
     pub fn atom(&self, at: usize, out: &mut [u64; 4096], o: usize) -> Option<Step>

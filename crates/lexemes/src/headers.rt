@@ -46,7 +46,7 @@ pub struct Header {
     pub word: u64,
 }
 
-impl Source<'_> {
+impl Source<'_, '_> {
     // A method's name and its parameters.
     #[tactic(auto, using(crate::specs::Headers::laws))]
     pub fn method_head(&self, at: usize) -> Option<Header>

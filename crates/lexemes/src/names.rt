@@ -15,7 +15,7 @@ pub struct Name {
     pub end: usize,
 }
 
-impl Source<'_> {
+impl Source<'_, '_> {
     // The number of the word from `at` to `end`.
     #[tactic(auto, using(crate::specs::NameLaws::laws))]
     pub fn word(&self, at: usize, end: usize) -> Option<Name>

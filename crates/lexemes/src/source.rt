@@ -3,13 +3,15 @@ ghost use Rattle.std.specs.Prelude.{◌≤◌, length};
 ghost use Rattle.atlite.specs.Lexicon.{dictionary};
 ghost use Rattle.scan.specs.WordNumbers.{Holds};
 
-use scan::Vocabulary;
+use scan::Words;
 
-// A text of at most 4,096 bytes, and its dictionary as `scan::scan` leaves it.
+// A text of at most 4,096 bytes, and the words of its dictionary, at most 2,048, in the order in which `scan::scan` finds them. They have a
+// lifetime of their own, since a field takes no struct with references of another lifetime.
 #[derive(Clone, Copy)]
-pub struct Source<'a> {
+pub struct Source<'a, 'w> {
     pub text: &'a [u8],
-    pub words: &'a Vocabulary,
-    pub ghost held: { Holds (dictionary text.now) words.now.low words.now.high words.now.count },
+    pub words: Words<'w>,
+    pub ghost held: { Holds (dictionary text.now) words.low.now words.high.now (length words.low.now) },
+    pub ghost few: { length words.low.now ≤ 2048 },
     pub ghost short: { length text.now ≤ 4096 },
 }

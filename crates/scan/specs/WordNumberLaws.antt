@@ -1,6 +1,6 @@
 -- The numbers of words: computed from the last byte to the first, split at 2^64, and different for different words.
 -- Assumes nothing.
-use Rattle.std.specs.Prelude.{◌≡◌, refl, Bool, true, false, ◌&&◌, ◌||◌, List, [], ◌∷◌, ◌++◌, leb, not, take, drop, Some, None}
+use Rattle.std.specs.Prelude.{◌≡◌, refl, Bool, true, false, ◌&&◌, ◌||◌, List, [], ◌∷◌, ◌++◌, leb, not, take, drop, Option, Some, None}
 use Rattle.std.proofs.Math.Path.{sym, ap}
 use Rattle.std.proofs.Common.{ap₂, ◌∙◌, add-zero, mul_assoc, add-one, rules, drop_of_length-le, drop-cons, length-take-le, length-drop, length-take, take_all, take-append-drop, Fits}
 use Prim.Native.Nat.{ℕ, zero, suc, ◌+◌, ◌-◌, ◌*◌, ◌^◌, ◌≤◌, ◌<◌}
@@ -8,6 +8,7 @@ use Rattle.std.proofs.Math.Nat.{pow-suc, pow-le-pow_right, pow-zero, sub-zero, s
 use native.Mathlib.Omega.{arith}
 use borrow.Author.Tests.{leb-true}
 use Rattle.std.proofs.Math.ListN.{length, get_or}
+use Rattle.std.proofs.lemmas.List.{get_or-take}
 use Rattle.std.specs.Int.{w64, w32}
 use Rattle.atlite.specs.Base.{same_bytes, all}
 use Rattle.atlite.specs.Lexicon.{Bytes, is_letter, is_digit, in_word, is_word, letter_first, among}
@@ -17,7 +18,7 @@ use Rattle.layout.specs.Layout.{bytes_number}
 use Rattle.reading.specs.Items.{word-parts}
 use Rattle.scan.specs.Runs.{index}
 use Rattle.scan.specs.Keywords.{same_not}
-use Rattle.scan.specs.WordNumbers.{low_part, high_part, Numbered, Placed, Sought}
+use Rattle.scan.specs.WordNumbers.{low_part, high_part, Numbered, Holds, Placed, Sought}
 
 module _ (w : Bytes) where
   pub numbered-none : Numbered w (length w) 0
@@ -198,4 +199,19 @@ module _ (low high : List ℕ) (count l h : ℕ) where
       let z : index (drop count ws) w ≡ 0 = rw (drop_of_length-le ws {i = count} (omega arith)) in
       omega (arith, u ws w s k p q)
 
-pub ruleset laws = (rules, numbered-none, numbered-all, mul-fits, add-fits, numbered_more, low-short, low-long, high-few, high_fits, high-short, high-long, sought-none, sought-more, placed-here, placed-none)
+-- slices of the first n places hold the words that the arrays hold
+module _ (low high low' high' : List ℕ) (n : ℕ) (count : length low' ≡ n) (lows : low' ≡ take n low) (highs : high' ≡ take n high) where
+  pub front-holds : (ws : List Bytes) → Holds ws low high n → Holds ws low' high' (length low')
+  front-holds ws h = rw (count, lows, highs) (record {
+    words = h.words;
+    counted = h.counted;
+    lows = λ i k. get_or-take n low i 0 k ∙ h.lows i k;
+    highs = λ i k. get_or-take n high i 0 k ∙ h.highs i k;
+  })
+
+  pub front-placed : (l h : ℕ) (r : Option ℕ) → Placed low' high' (length low') l h r → Placed low high n l h r
+  unfolding Placed
+  front-placed l h (Some i) p = (rw count at p.0, λ ws w s k x y. p.1 ws w (front-holds ws s) k x y)
+  front-placed l h None p = λ ws w s k x y. sym count ∙ p ws w (front-holds ws s) k x y
+
+pub ruleset laws = (rules, numbered-none, numbered-all, mul-fits, add-fits, numbered_more, low-short, low-long, high-few, high_fits, high-short, high-long, sought-none, sought-more, placed-here, placed-none, front-placed)

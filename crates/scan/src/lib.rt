@@ -13,7 +13,7 @@ mod vocabulary;
 pub use bytes::{is_digit, named, run_end, starts};
 pub use codes::{high_part, low_part};
 pub use keywords::{is_word, keyword};
-pub use vocabulary::Vocabulary;
+pub use vocabulary::{Vocabulary, Words};
 
 // The dictionary of a text, run by run.
 #[tactic(auto, using(crate::specs::DictionaryLaws::laws))]

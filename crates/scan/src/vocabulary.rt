@@ -1,5 +1,5 @@
-// The dictionary of a text: its words' numbers in two parts, in the order in which they are found.
-ghost use Rattle.std.specs.Prelude.{◌≡◌, ◌≤◌, ◌<◌, true, false, length};
+// The dictionary of a text: its words' numbers in two parts, in the order in which they are found; and words as they are lent and looked up.
+ghost use Rattle.std.specs.Prelude.{◌≡◌, ◌≤◌, ◌<◌, true, false, length, take};
 ghost use Rattle.std.proofs.Math.Seq.{slice};
 ghost use Rattle.atlite.specs.Base.{all, bytes, same_bytes};
 ghost use Rattle.atlite.specs.Lexicon.{in_word, is_word};
@@ -9,6 +9,37 @@ ghost use Rattle.scan.specs.WordNumbers.{low_part, high_part, Noted, Placed};
 use crate::bytes::named;
 use crate::codes::{high_part, low_part};
 use crate::keywords::is_word;
+
+// As many words as there are places in `low`, each with its two parts at one place.
+#[derive(Clone, Copy)]
+pub struct Words<'a> {
+    pub low: &'a [u64],
+    pub high: &'a [u32],
+    pub ghost paired: { length low.now ≡ length high.now },
+}
+
+impl Words<'_> {
+    // The place of a word: of letters and digits, which are twelve at most.
+    pub fn find(&self, word: &[u8]) -> Option<usize>
+        requires { (all in_word word.now ≡ true) × (length word.now ≤ 12) }
+        ensures { Placed self.now.low.now self.now.high.now (length self.now.low.now) (low_part word.now) (high_part word.now) result }
+    {
+        self.place(low_part(word), high_part(word))
+    }
+
+    // The place of the word with the parts `low` and `high`.
+    #[tactic(auto, using(crate::specs::WordNumberLaws::laws))]
+    pub fn place(&self, low: u64, high: u32) -> Option<usize>
+        ensures { Placed self.now.low.now self.now.high.now (length self.now.low.now) low high result }
+    {
+        for i in 0..self.low.len() {
+            if self.low[i] == low && self.high[i] == high {
+                return Some(i);
+            }
+        }
+        None
+    }
+}
 
 // The first `count` entries are words, and `apply` says whether that word, which has no place there, is one more. An engine never allocates: there
 // is room for the words of the longest text.
@@ -34,25 +65,22 @@ impl Vocabulary {
         }
     }
 
-    // The place of a word, by its two parts, which letters and digits have.
-    pub fn find(&self, word: &[u8]) -> Option<usize>
-        requires { (all in_word word.now ≡ true) × (length word.now ≤ 12) }
-        ensures { Placed self.now.low self.now.high self.now.count (low_part word.now) (high_part word.now) result }
+    // The words that it has.
+    pub fn words(&self) -> Words<'_>
+        ensures { (length result.low.now ≡ self.now.count) × (result.low.now ≡ take self.now.count self.now.low) × (result.high.now ≡ take self.now.count self.now.high) }
     {
-        self.place(low_part(word), high_part(word))
+        Words {
+            low: &self.low[..self.count],
+            high: &self.high[..self.count],
+        }
     }
 
     // The place of the word with the parts `low` and `high`.
     #[tactic(auto, using(crate::specs::WordNumberLaws::laws))]
-    pub fn place(&self, low: u64, high: u32) -> Option<usize>
+    fn place(&self, low: u64, high: u32) -> Option<usize>
         ensures { Placed self.now.low self.now.high self.now.count low high result }
     {
-        for i in 0..self.count {
-            if self.low[i] == low && self.high[i] == high {
-                return Some(i);
-            }
-        }
-        None
+        self.words().place(low, high)
     }
 
     // Takes in the run from `at` to `end` if it is a new word.

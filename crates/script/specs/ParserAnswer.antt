@@ -1,19 +1,24 @@
 -- What the parser's answer means for the reader: a script whose lines stand in the scratch words, or cause 2. Assumes nothing.
-use Rattle.std.specs.Prelude.{ℕ, ◌≤◌, ◌≡◌, Bool, Some, None, Err, List, length}
+use Rattle.std.specs.Prelude.{ℕ, ◌≤◌, ◌≡◌, Bool, Some, None, Err, List, length, take}
 use Rattle.std.proofs.Common.{arith, rules}
 use Rattle.atlite.specs.Lexicon.{dictionary}
 use Rattle.atlite.specs.declared.Cause.TheVariants as C
 use Rattle.layout.specs.Numbers.{table_words}
 use Rattle.scan.specs.WordNumbers.{Holds, Dictionary}
+use Rattle.scan.specs.WordNumberLaws.{front-holds}
 use Rattle.parse.specs.declared.Parsed.{Parsed}
 use Rattle.parse.specs.TextLaws.{Parses}
 use Rattle.script.specs.ReadContract.{Reads, no_room, no_text, long-text, no-script}
 use Rattle.script.specs.ReaderCauses.{Sized, Grammar, rows-within}
 
 module _ (t old : List ℕ) where
-  -- what the parser asks
+  -- what the parser asks: the words of the dictionary, which are lent to it as slices of the arrays, and that they are few
   pub held : (low high : List ℕ) (count : ℕ) (apply : Bool) → Dictionary t low high count apply → Holds (dictionary t) low high count
   held low high count apply d = d.held
+
+  pub front-held : (low high : List ℕ) (count : ℕ) (apply : Bool) → Dictionary t low high count apply → (low' high' : List ℕ)
+      → length low' ≡ count → low' ≡ take count low → high' ≡ take count high → Holds (dictionary t) low' high' (length low')
+  front-held low high count apply d low' high' e a b = front-holds low high low' high' count e a b (dictionary t) (held low high count apply d)
 
   pub known-few : (low high : List ℕ) (count : ℕ) (apply : Bool) → Dictionary t low high count apply → count ≤ 2048
   known-few low high count apply d = d.room
@@ -43,4 +48,4 @@ module _ (t old : List ℕ) where
   pub sized : table_words ≤ length old → (length t ≡ 0 → ⊥) → length t ≤ 4096 → Sized t old
   sized a b c = record { room = a; some = b; short = c }
 
-pub ruleset laws = (rules, held, known-few, parsed, unparsed, sized, no_room, no_text, long-text)
+pub ruleset laws = (rules, held, front-held, known-few, parsed, unparsed, sized, no_room, no_text, long-text)

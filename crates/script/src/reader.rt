@@ -94,10 +94,8 @@ fn grammar(text: &[u8], table: &mut [u32]) -> Result<(), Cause>
     let mut known = Vocabulary::new();
     scan::scan(text, &mut known);
     let mut s = [0u64; 4096];
-    let source = Source {
-        text,
-        words: &known,
-    };
+    let words = known.words();
+    let source = Source { text, words };
     let Some(p) = parse::parse(&source, &mut s) else {
         return Err(Cause::Grammar);
     };
