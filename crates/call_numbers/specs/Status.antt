@@ -1,13 +1,8 @@
 -- The number that a call returns, by what it came to: the same for each of the six, whatever else they answer. Assumes nothing.
 use Rattle.std.specs.Prelude.{ℕ, ◌≡◌, Ok, Err, refl}
 use Rattle.std.specs.Prelude as Code
-use Rattle.std.proofs.Common.{ap, ◌∙◌}
-use Rattle.atlite.specs.Answers.{Returned, move_answer, run_answer, read_answer, load_answer, print_answer, list_answer}
-use Rattle.atlite.specs.Causes.{number}
-use Rattle.atlite.specs.declared.Moved.{Moved}
-use Rattle.atlite.specs.declared.Ran.{Ran}
 use Rattle.promises.specs.CallNumbers.{cause}
-use Rattle.refusals.specs.ReturnedAs.{returned_as, as_is, moved_as, ran_as, read-is, load-is, print-is, list-is, move-is, run-is}
+use Rattle.refusals.specs.ReturnedAs.{returned_as}
 
 abbrev pub status_of : {A C : Type 0} → (C → ℕ) → Code.Result A C → ℕ
 status_of why (Ok x) = 0
@@ -18,24 +13,5 @@ pub status : {A B C : Type 0} (f : A → B) (why : C → ℕ) (r : Code.Result A
 unfolding returned_as cause
 status f why (Ok x) = refl
 status f why (Err c) = refl
-
--- at a cause, by the answer of each call
-pub read_status : (r : Returned (Unit {0})) → status_of number r ≡ cause (read_answer r)
-read_status r = status as_is number r ∙ ap cause (read-is r)
-
-pub load_status : (r : Returned (Unit {0})) → status_of number r ≡ cause (load_answer r)
-load_status r = status as_is number r ∙ ap cause (load-is r)
-
-pub print_status : (r : Returned ℕ) → status_of number r ≡ cause (print_answer r)
-print_status r = status as_is number r ∙ ap cause (print-is r)
-
-pub list_status : (r : Returned ℕ) → status_of number r ≡ cause (list_answer r)
-list_status r = status as_is number r ∙ ap cause (list-is r)
-
-pub move_status : (r : Returned Moved) → status_of number r ≡ cause (move_answer r)
-move_status r = status moved_as number r ∙ ap cause (move-is r)
-
-pub run_status : (r : Returned Ran) → status_of number r ≡ cause (run_answer r)
-run_status r = status ran_as number r ∙ ap cause (run-is r)
 
 pub ruleset laws = (status)

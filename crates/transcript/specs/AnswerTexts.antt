@@ -9,16 +9,15 @@ use Rattle.atlite.specs.Lexicon.{Bytes}
 use Rattle.atlite.specs.Move.{Answer}
 use Rattle.atlite.specs.Printer.{print_number}
 use Rattle.atlite.specs.Replay.{answer_text}
+use Rattle.atlite.specs.Answers.{Returned, move_answer}
 use Rattle.atlite.specs.declared.ActorNo.{ActorNo}
 use Rattle.atlite.specs.declared.Moved.{Moved}
-use Rattle.atlite.specs.Answers.{Returned, move_answer}
 use Rattle.atlite.specs.Causes.{number}
-use Rattle.atlite.specs.declared.Cause.{Cause}
 use Rattle.atlite.specs.declared.Moved.TheVariants as M
 use Rattle.refusals.specs.ReturnedAs.{returned_as, moved_as, move-is}
 use Rattle.showing.specs.declared.writer.Writer.{Writer}
 use Rattle.showing.specs.Put.{Put, put_none, then}
-use Rattle.transcript.specs.Digits.{byte-digits, cause-few}
+use Rattle.transcript.specs.Digits.{byte-digits}
 
 -- what stands before the answer to a call that i others were made before
 unfoldable pub gap : ℕ → Bytes
@@ -83,6 +82,3 @@ module _ {a b : Writer} where
   -- the same where a refusal is told by its cause
   pub told-by-cause : (r : Returned Moved) → Told a (told (returned_as moved_as number r)) b → Told a (told (move_answer r)) b
   told-by-cause r g = transp (λ R. Told a (told R) b) (move-is r) g
-
-  pub cause-told : {r : Returned Moved} (c : Cause) → r ≡ Err c → {m : ℕ} → m ≡ number c → Put a (print_number m) b → Told a (told (move_answer r)) b
-  cause-told {r} c e f g = told-by-cause r (refused-put number c e f (omega (arith, cause-few c)) g)

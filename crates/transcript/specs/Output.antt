@@ -11,9 +11,7 @@ use Rattle.atlite.specs.Replay.{bad_token}
 use Rattle.showing.specs.Writer.{most, Wrote}
 use Rattle.showing.specs.declared.writer.Writer.{Writer}
 use Rattle.showing.specs.Put.{Put, then, from-start}
-use Rattle.atlite.specs.Causes.{number}
-use Rattle.atlite.specs.declared.Cause.{Cause}
-use Rattle.transcript.specs.Digits.{byte-digits, cause-few}
+use Rattle.transcript.specs.Digits.{byte-digits}
 
 -- the bytes that a listing may have
 abbrev pub listing_room : ℕ
@@ -50,10 +48,6 @@ module _ {old : List ℕ} {a b : Writer} (room : listing_room ≤ length old) (e
       let l : length t ≤ listing_room = omega (arith, length-append x (print_number k ++ y), length-append (print_number k) y, byte-digits k d) in
       let w = front-written t old b.out.now b.len (omega arith) (omega arith) (from-start e z (then p (then q r))) in
       transp (λ k. Written (shown (refused k)) old b.len b.out.now) f (written_same _ t old b.len b.out.now (append_assoc x (print_number k) y) w)
-
-  pub cause-written : {m n : Writer} (c : Cause) (k : ℕ) → k ≡ number c → Put a (bytes "(refused ") m → Put m (print_number k) n → Put n (bytes ")\n") b
-      → Written (shown (refused (number c))) old b.len b.out.now
-  cause-written c k f = refusal-written (number c) k f (omega (arith, cause-few c))
 
   pub token-written : Put a (bytes "(bad token)\n") b → Written bad_token old b.len b.out.now
   unfolding bad_token bytes
