@@ -13,11 +13,12 @@ use Rattle.atlite.specs.Answers.{Returned, move_answer}
 use Rattle.atlite.specs.declared.ActorNo.{ActorNo}
 use Rattle.atlite.specs.declared.Moved.{Moved}
 use Rattle.atlite.specs.Causes.{number}
+use Rattle.atlite.specs.declared.Cause.{Cause}
 use Rattle.atlite.specs.declared.Moved.TheVariants as M
 use Rattle.refusals.specs.ReturnedAs.{returned_as, moved_as, move-is}
 use Rattle.showing.specs.declared.writer.Writer.{Writer}
 use Rattle.showing.specs.Put.{Put, put_none, then}
-use Rattle.transcript.specs.Digits.{byte-digits}
+use Rattle.transcript.specs.Digits.{byte-digits, cause-few}
 
 -- what stands before the answer to a call that i others were made before
 unfoldable pub gap : ℕ → Bytes
@@ -59,26 +60,42 @@ module _ {a b : Writer} where
   -- what is returned, r, tells its refusal c by the number why c
   module _ {C : Type 0} (why : C → ℕ) {r : Code.Result Moved C} where
     module _ {x : Moved} (e : r ≡ Ok x) where
-      pub inner-put : x ≡ M.Inner → Put a (73 ∷ []) b → Told a (told (returned_as moved_as why r)) b
+      pub inner-told : x ≡ M.Inner → Put a (73 ∷ []) b → Told a (told (returned_as moved_as why r)) b
       unfolding told returned_as moved_as answer_text bytes
-      inner-put f g = rw (e, f) (record { put = g; few = omega arith })
+      inner-told f g = rw (e, f) (record { put = g; few = omega arith })
 
-      pub taken-put : x ≡ M.Taken → Put a (84 ∷ []) b → Told a (told (returned_as moved_as why r)) b
+      pub taken-told : x ≡ M.Taken → Put a (84 ∷ []) b → Told a (told (returned_as moved_as why r)) b
       unfolding told returned_as moved_as answer_text bytes
-      taken-put f g = rw (e, f) (record { put = g; few = omega arith })
+      taken-told f g = rw (e, f) (record { put = g; few = omega arith })
 
-      pub sent-put : (n : ActorNo) → x ≡ M.Sent n → Told a (83 ∷ print_number n.0) b → Told a (told (returned_as moved_as why r)) b
+      pub sent-told : (n : ActorNo) → x ≡ M.Sent n → Told a (83 ∷ print_number n.0) b → Told a (told (returned_as moved_as why r)) b
       unfolding told returned_as moved_as answer_text bytes
-      sent-put n f g = rw (e, f) g
+      sent-told n f g = rw (e, f) g
 
-      pub created-put : (n : ActorNo) → x ≡ M.Created n → Told a (67 ∷ print_number n.0) b → Told a (told (returned_as moved_as why r)) b
+      pub created-told : (n : ActorNo) → x ≡ M.Created n → Told a (67 ∷ print_number n.0) b → Told a (told (returned_as moved_as why r)) b
       unfolding told returned_as moved_as answer_text bytes
-      created-put n f g = rw (e, f) g
+      created-told n f g = rw (e, f) g
 
-    pub refused-put : (c : C) → r ≡ Err c → {m : ℕ} → m ≡ why c → m ≤ 255 → Put a (print_number m) b → Told a (told (returned_as moved_as why r)) b
+    pub refused-told : (c : C) → r ≡ Err c → {m : ℕ} → m ≡ why c → m ≤ 255 → Put a (print_number m) b → Told a (told (returned_as moved_as why r)) b
     unfolding told returned_as
-    refused-put c e f h g = rw e (number-put f (omega arith) g)
+    refused-told c e f h g = rw e (number-put f (omega arith) g)
 
-  -- the same where a refusal is told by its cause
+  -- the same where a refusal is told by its cause, and so each of the five
   pub told-by-cause : (r : Returned Moved) → Told a (told (returned_as moved_as number r)) b → Told a (told (move_answer r)) b
   told-by-cause r g = transp (λ R. Told a (told R) b) (move-is r) g
+
+  module _ {r : Returned Moved} {x : Moved} (e : r ≡ Ok x) where
+    pub inner-put : x ≡ M.Inner → Put a (73 ∷ []) b → Told a (told (move_answer r)) b
+    inner-put f g = told-by-cause r (inner-told number e f g)
+
+    pub taken-put : x ≡ M.Taken → Put a (84 ∷ []) b → Told a (told (move_answer r)) b
+    taken-put f g = told-by-cause r (taken-told number e f g)
+
+    pub sent-put : (n : ActorNo) → x ≡ M.Sent n → Told a (83 ∷ print_number n.0) b → Told a (told (move_answer r)) b
+    sent-put n f g = told-by-cause r (sent-told number e n f g)
+
+    pub created-put : (n : ActorNo) → x ≡ M.Created n → Told a (67 ∷ print_number n.0) b → Told a (told (move_answer r)) b
+    created-put n f g = told-by-cause r (created-told number e n f g)
+
+  pub refused-put : {r : Returned Moved} (c : Cause) → r ≡ Err c → {m : ℕ} → m ≡ number c → Put a (print_number m) b → Told a (told (move_answer r)) b
+  refused-put {r} c e f g = told-by-cause r (refused-told number c e f (omega (arith, cause-few c)) g)

@@ -4,6 +4,8 @@ use Rattle.std.specs.Prelude.{ℕ, ◌+◌, ◌≤◌, ◌≡◌, List, ◌++◌
 use Rattle.std.proofs.Common.{sym, ap, ◌∙◌, subst as transp, arith, length-append, append_assoc}
 use Rattle.std.proofs.lemmas.List.Edits.{sets-eq}
 use Rattle.atlite.specs.Base.{Result, refused, bytes}
+use Rattle.atlite.specs.Causes.{number}
+use Rattle.atlite.specs.declared.Cause.{Cause}
 use Rattle.atlite.specs.Lexicon.{Bytes}
 use Rattle.atlite.specs.Printer.{print_number}
 use Rattle.atlite.specs.Program.{shown}
@@ -11,7 +13,7 @@ use Rattle.atlite.specs.Replay.{bad_token}
 use Rattle.showing.specs.Writer.{most, Wrote}
 use Rattle.showing.specs.declared.writer.Writer.{Writer}
 use Rattle.showing.specs.Put.{Put, then, from-start}
-use Rattle.transcript.specs.Digits.{byte-digits}
+use Rattle.transcript.specs.Digits.{byte-digits, cause-few}
 
 -- the bytes that a listing may have
 abbrev pub listing_room : ℕ
@@ -38,16 +40,22 @@ front-written s old new r h l g =
     record { count = n; fits = omega arith; text = g.is (omega arith) ∙ sets-eq s old 0 (omega arith) ∙ ap (λ k. s ++ drop k old) z }
 
 module _ {old : List ℕ} {a b : Writer} (room : listing_room ≤ length old) (e : a.out.now ≡ old) (z : a.len ≡ 0) where
-  pub refusal-written : {m n : Writer} (c k : ℕ) → k ≡ c → k ≤ 255 → Put a (bytes "(refused ") m → Put m (print_number k) n → Put n (bytes ")\n") b
+  -- the line of a refusal that is told by the number c
+  pub refusal-told : {m n : Writer} (c k : ℕ) → k ≡ c → k ≤ 255 → Put a (bytes "(refused ") m → Put m (print_number k) n → Put n (bytes ")\n") b
       → Written (shown (refused c)) old b.len b.out.now
   unfolding shown bytes
-  refusal-written c k f d p q r =
+  refusal-told c k f d p q r =
       let x = bytes "(refused " in
       let y = bytes ")\n" in
       let t = x ++ (print_number k ++ y) in
       let l : length t ≤ listing_room = omega (arith, length-append x (print_number k ++ y), length-append (print_number k) y, byte-digits k d) in
       let w = front-written t old b.out.now b.len (omega arith) (omega arith) (from-start e z (then p (then q r))) in
       transp (λ k. Written (shown (refused k)) old b.len b.out.now) f (written_same _ t old b.len b.out.now (append_assoc x (print_number k) y) w)
+
+  -- the same where it is told by its cause
+  pub refusal-written : {m n : Writer} (c : Cause) (k : ℕ) → k ≡ number c → Put a (bytes "(refused ") m → Put m (print_number k) n → Put n (bytes ")\n") b
+      → Written (shown (refused (number c))) old b.len b.out.now
+  refusal-written c k f p q r = refusal-told (number c) k f (omega (arith, cause-few c)) p q r
 
   pub token-written : Put a (bytes "(bad token)\n") b → Written bad_token old b.len b.out.now
   unfolding bad_token bytes
