@@ -214,4 +214,4 @@ module _ (low high low' high' : List ℕ) (n : ℕ) (count : length low' ≡ n) 
   front-placed l h (Some i) p = (rw count at p.0, λ ws w s k x y. p.1 ws w (front-holds ws s) k x y)
   front-placed l h None p = λ ws w s k x y. sym count ∙ p ws w (front-holds ws s) k x y
 
-pub ruleset laws = (rules, numbered-none, numbered-all, mul-fits, add-fits, numbered_more, low-short, low-long, high-few, high_fits, high-short, high-long, sought-none, sought-more, placed-here, placed-none, front-placed)
+pub ruleset laws = (rules, numbered-none, numbered-all, mul-fits, add-fits, numbered_more, low-short, low-long, word-letters, word-few, high-few, high_fits, high-short, high-long, sought-none, sought-more, placed-here, placed-none, front-placed)
